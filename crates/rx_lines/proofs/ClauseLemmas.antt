@@ -1,0 +1,243 @@
+-- The reader's clauses are what `Fits` and `AreClauses` mean.
+use Rattle.std.proofs.Common.{◌≡◌, ◌<◌, ◌≤◌, get_or, add-one, inl, inr, ◌+◌, ℕ, suc, Bool, true, false, cond, List, [], ◌∷◌, ◌++◌, Option, None, Some, length, drop, refl, sym, ◌∙◌, ap, subst, append_assoc}
+use Rattle.std.specs.Prelude.{codes}
+use Rattle.std.proofs.lemmas.List.{append-nil}
+use Rattle.std.specs.Str.{bytes_eq}
+use Rattle.std.specs.Str.Lines.{lines}
+use Rattle.std.proofs.lemmas.Slice.Eq.{bytes_eq-Decides}
+use Rattle.rx_tree.specs.declared.token.TokenKind.{TokenKind}
+use Rattle.rx_tree.specs.declared.token.TokenKind.TheVariants.{Simple, Quoted}
+use Rattle.rx_tree.specs.declared.value.Value.{Value}
+use Rattle.rx_tree.specs.declared.value.Value.TheVariants.{Str, Ref}
+use Rattle.rx_tree.specs.declared.expr.Expr.{Expr}
+use Rattle.rx_tree.specs.declared.expr.Expr.TheVariants.{Const, Hole}
+use Rattle.rx_tree.specs.declared.clause.Clause.{Clause}
+use Rattle.rx_tree.specs.declared.clause.ClauseKind.{ClauseKind}
+use Rattle.rx_tree.specs.declared.clause.ClauseKind.TheVariants.{Say}
+use Rattle.rx_tree.specs.declared.clause.Body.{Body}
+use Rattle.rx_tree.specs.declared.class.ClassDef.{ClassDef}
+use Rattle.rx_tree.specs.declared.clause.Package.{Package}
+use Rattle.rx_lines.specs.Tokens.{Spells}
+use Rattle.rx_lines.specs.Clauses.{FitsValue, FitsExpr, FitsSay, Fits, IsClause}
+use Rattle.rx_lines.specs.Programs.{AreClauses, IsProgram, kind_of, line_of}
+use Rattle.rx_lines.specs.Reader.{said_by, clause_of, first_token, without_blanks, AreTokens, HasNoTokens}
+use Rattle.std.proofs.Math.Seq.{drop-cons}
+use Rattle.std.proofs.Math.ListN.{drop_of_length-le}
+use Rattle.rx_lines.specs.declared.program.Line.{Line}
+use Rattle.rx_lines.specs.LineRead.{IsLineRead, HasNoClauses}
+use Rattle.rx_lines.proofs.Blanks.{without_blanks-all}
+use Rattle.rx_lines.proofs.SpellLemmas.{Comes, spells-comes}
+
+fits-value : (operand : List TokenKind) (value : Value) → FitsValue operand value → said_by operand ≡ Some (Say (Some (Const value)))
+fits-value operand (Str text) fits = ap said_by fits
+fits-value operand (Ref object) fits = absurd fits
+
+fits-expr : (operand : List TokenKind) (expr : Expr) → FitsExpr operand expr → said_by operand ≡ Some (Say (Some expr))
+fits-expr operand (Const value) fits = fits-value operand value fits
+fits-expr operand Hole fits = absurd fits
+
+fits-say : (kinds : List TokenKind) (given : Option Expr) → FitsSay kinds given → clause_of kinds ≡ Some (Say given)
+fits-say kinds None fits = ap clause_of fits
+fits-say kinds (Some expr) fits = ap clause_of fits.1 ∙ fits-expr fits.0 expr fits.2
+
+-- Tokens of a clause are read as it.
+pub fits-is : (kinds : List TokenKind) (kind : ClauseKind) → Fits kinds kind → clause_of kinds ≡ Some kind
+fits-is kinds (Say given) fits = fits-say kinds given fits
+
+-- what SAY says is read as it is written
+said-fits : (operand : List TokenKind) (kind : ClauseKind) → said_by operand ≡ Some kind → Fits (Simple (codes "SAY") ∷ operand) kind
+said-fits [] kind is =
+    let same : Say None ≡ kind = cc in subst (λ (k : ClauseKind). Fits (Simple (codes "SAY") ∷ []) k) same refl
+said-fits (Quoted text ∷ []) kind is =
+    let same : Say (Some (Const (Str text))) ≡ kind = cc in
+    subst (λ (k : ClauseKind). Fits (Simple (codes "SAY") ∷ (Quoted text ∷ [])) k) same (Quoted text ∷ [], refl, refl)
+said-fits (Quoted text ∷ (other ∷ others)) kind is = cc
+said-fits (Simple name ∷ others) kind is = cc
+
+say-fits : (name : List ℕ) (operand : List TokenKind) (kind : ClauseKind) (says : Bool) → bytes_eq name (codes "SAY") ≡ says
+    → cond says (said_by operand) None ≡ Some kind → Fits (Simple name ∷ operand) kind
+say-fits name operand kind true tested is =
+    let same : name ≡ codes "SAY" = (bytes_eq-Decides name (codes "SAY")).0 tested in
+    subst (λ (xs : List ℕ). Fits (Simple xs ∷ operand) kind) (sym same) (said-fits operand kind is)
+say-fits name operand kind false tested is = cc
+
+-- What the reader takes is a clause of the tokens.
+pub is-fits : (kinds : List TokenKind) (kind : ClauseKind) → clause_of kinds ≡ Some kind → Fits kinds kind
+is-fits [] kind is = cc
+is-fits (Quoted text ∷ operand) kind is = cc
+is-fits (Simple name ∷ operand) kind is = say-fits name operand kind (bytes_eq name (codes "SAY")) refl is
+
+none-not-some : {A : Type 0} (found : Option A) (x : A) → found ≡ None → found ≡ Some x → ⊥
+none-not-some None x none some = cc
+none-not-some (Some y) x none some = cc
+
+-- A line is written with one list of tokens.
+pub spells-once : (kinds others : List TokenKind) (line : List ℕ) → Spells kinds line → Spells others line → kinds ≡ others
+spells-once [] [] line spelled again = refl
+spells-once [] (kind ∷ kinds) line spelled again =
+    let comes : Comes kind kinds line = spells-comes kind kinds line again in
+    absurd (none-not-some (first_token (without_blanks line)) (kind, comes.rest) (ap first_token (without_blanks-all line spelled)) comes.first)
+spells-once (kind ∷ kinds) [] line spelled again =
+    let comes : Comes kind kinds line = spells-comes kind kinds line spelled in
+    absurd (none-not-some (first_token (without_blanks line)) (kind, comes.rest) (ap first_token (without_blanks-all line again)) comes.first)
+spells-once (kind ∷ kinds) (other ∷ others) line spelled again =
+    let first : Comes kind kinds line = spells-comes kind kinds line spelled in
+    let second : Comes other others line = spells-comes other others line again in
+    let both : Some (kind, first.rest) ≡ Some (other, second.rest) = sym first.first ∙ second.first in
+    let pair : (kind, first.rest) ≡ (other, second.rest) = cc in
+    let rest : kinds ≡ others = spells-once kinds others second.rest
+    (subst (λ (t : TokenKind × List ℕ). Spells kinds t.1) pair first.others) second.others in
+    ap (λ (t : TokenKind × List ℕ). t.0 ∷ kinds) pair ∙ ap (λ xs. other ∷ xs) rest
+
+-- A line is at most one clause.
+pub clause-once : (line : List ℕ) (kind other : ClauseKind) → IsClause line kind → IsClause line other → kind ≡ other
+clause-once line kind other first second =
+    let same : first.tokens ≡ second.tokens = spells-once first.tokens second.tokens line first.spelled second.spelled in
+    let both : Some kind ≡ Some other = sym (fits-is first.tokens kind first.fits) ∙ ap clause_of same ∙ fits-is second.tokens other second.fits in
+    cc
+
+-- A clause has a token.
+pub blank-no-clause : (line : List ℕ) (kind : ClauseKind) → Spells [] line → IsClause line kind → ⊥
+blank-no-clause line kind blank is =
+    let same : [] ≡ is.tokens = spells-once [] is.tokens line blank is.spelled in
+    none-not-some (clause_of is.tokens) kind (ap clause_of (sym same)) (fits-is is.tokens kind is.fits)
+
+pub no-tokens-no-clause : (line : List ℕ) → HasNoTokens line → (Spells [] line → ⊥) × ((kind : ClauseKind) → IsClause line kind → ⊥)
+no-tokens-no-clause line none = (none [], λ kind is. none is.tokens is.spelled)
+
+-- tokens that are no clause's
+pub no-clause : (line : List ℕ) (tokens : List TokenKind) → AreTokens line tokens → clause_of tokens ≡ None → (kind : ClauseKind) → IsClause line kind → ⊥
+no-clause line tokens are none = λ kind is.
+    none-not-some (clause_of tokens) kind none (ap clause_of (sym (are.only is.tokens is.spelled)) ∙ fits-is is.tokens kind is.fits)
+
+same_clause : (clause other : Clause) → line_of clause ≡ line_of other → kind_of clause ≡ kind_of other → clause ≡ other
+same_clause clause other lines kinds =
+    let first : clause ≡ record { line = line_of other; kind = kind_of clause } = ap (λ n. record clause { line = n }) lines in
+    first ∙ ap (λ k. record other { kind = k }) kinds
+
+-- Lines have at most one list of clauses.
+pub clauses-once : (n : ℕ) (lines : List (List ℕ)) (clauses others : List Clause) → AreClauses n lines clauses → AreClauses n lines others → clauses ≡ others
+clauses-once n [] clauses others first second = first ∙ sym second
+clauses-once n (line ∷ lines) clauses others (inl first) (inl second) = clauses-once (n + 1) lines clauses others first.1 second.1
+clauses-once n (line ∷ lines) clauses others (inl first) (inr second) = absurd (blank-no-clause line (kind_of second.0) first.0 second.4)
+clauses-once n (line ∷ lines) clauses others (inr first) (inl second) = absurd (blank-no-clause line (kind_of first.0) second.0 first.4)
+clauses-once n (line ∷ lines) clauses others (inr first) (inr second) =
+    let head : first.0 ≡ second.0 = same_clause first.0 second.0 (first.3 ∙ sym second.3)
+    (clause-once line (kind_of first.0) (kind_of second.0) first.4 second.4) in
+    let tail : first.1 ≡ second.1 = clauses-once (n + 1) lines first.1 second.1 first.5 second.5 in
+    first.2 ∙ ap (λ c. c ∷ first.1) head ∙ ap (λ cs. second.0 ∷ cs) tail ∙ sym second.2
+
+-- the program of these parts
+made : List Clause → List Body → List ClassDef → List (List ℕ × ℕ) → List (List ℕ) → Package
+made clauses bodies classes routines split = record {
+  main = record { clauses = clauses };
+  bodies = bodies;
+  classes = classes;
+  routines = routines;
+  lines = split;
+}
+
+is-made : (source : List ℕ) (program : Package) → IsProgram source program → program ≡ made program.main.clauses [] [] [] (lines source)
+unfolding made
+is-made source program is =
+    ap (λ xs. made program.main.clauses xs program.classes program.routines program.lines) is.bodies
+    ∙ ap (λ xs. made program.main.clauses [] xs program.routines program.lines) is.classes
+    ∙ ap (λ xs. made program.main.clauses [] [] xs program.lines) is.routines
+    ∙ ap (λ xs. made program.main.clauses [] [] [] xs) is.split
+
+-- A source is at most one program.
+pub program-once : (source : List ℕ) (program other : Package) → IsProgram source program → IsProgram source other → program ≡ other
+program-once source program other first second =
+    is-made source program first
+    ∙ ap (λ xs. made xs [] [] [] (lines source))
+    (clauses-once 1 (lines source) program.main.clauses other.main.clauses first.clauses second.clauses)
+    ∙ sym (is-made source other second)
+
+-- Clauses were read up to a line: those of the lines are these and those of the lines that are left.
+pub record HasClauses (lines : List (List ℕ)) (clauses : List Clause) (n : ℕ) (left : List (List ℕ)) : Type 0 where
+  pub joins : (others : List Clause) → AreClauses n left others → AreClauses 1 lines (clauses ++ others)
+  pub only : (all : List Clause) → AreClauses 1 lines all → (others : List Clause) × (all ≡ clauses ++ others) × AreClauses n left others
+
+pub HasClauses-init : (lines : List (List ℕ)) → HasClauses lines [] 1 lines
+HasClauses-init lines = record { joins = λ others are. are; only = λ all are. (all, refl, are) }
+
+-- one blank line more
+pub HasClauses-blank : (lines : List (List ℕ)) (clauses : List Clause) (n : ℕ) (line : List ℕ) (left : List (List ℕ))
+    → HasClauses lines clauses n (line ∷ left) → Spells [] line → HasClauses lines clauses (n + 1) left
+HasClauses-blank lines clauses n line left so_far blank = record {
+  joins = λ others are. so_far.joins others (inl (blank, are));
+  only = λ all are.
+      let rest : (others : List Clause) × (all ≡ clauses ++ others) × AreClauses n (line ∷ left) others = so_far.only all are in
+      (rest.0, rest.1, blank_others n line left rest.0 blank rest.2);
+}
+  where
+    blank_others : (n : ℕ) (line : List ℕ) (left : List (List ℕ)) (others : List Clause) → Spells [] line → AreClauses n (line ∷ left) others → AreClauses (n + 1) left others
+    blank_others n line left others blank (inl are) = are.1
+    blank_others n line left others blank (inr are) = absurd (blank-no-clause line (kind_of are.0) blank are.4)
+
+-- one clause more
+pub HasClauses-clause : (lines : List (List ℕ)) (clauses : List Clause) (n : ℕ) (line : List ℕ) (left : List (List ℕ)) (clause : Clause)
+    → HasClauses lines clauses n (line ∷ left) → line_of clause ≡ n → IsClause line (kind_of clause) → HasClauses lines (clauses ++ clause ∷ []) (n + 1) left
+HasClauses-clause lines clauses n line left clause so_far number is = record {
+  joins = λ others are.
+      subst (λ (cs : List Clause). AreClauses 1 lines cs) (sym (append_assoc clauses (clause ∷ []) others))
+      (so_far.joins (clause ∷ others) (inr (clause, others, refl, number, is, are)));
+  only = λ all are.
+      let rest : (others : List Clause) × (all ≡ clauses ++ others) × AreClauses n (line ∷ left) others = so_far.only all are in
+      let next : (more : List Clause) × (rest.0 ≡ clause ∷ more) × AreClauses (n + 1) left more = clause_others n line left rest.0 clause number is rest.2 in
+      (next.0, rest.1 ∙ ap (λ cs. clauses ++ cs) next.1 ∙ sym (append_assoc clauses (clause ∷ []) next.0), next.2);
+}
+  where
+    clause_others : (n : ℕ) (line : List ℕ) (left : List (List ℕ)) (others : List Clause) (clause : Clause) → line_of clause ≡ n → IsClause line (kind_of clause)
+        → AreClauses n (line ∷ left) others → (more : List Clause) × (others ≡ clause ∷ more) × AreClauses (n + 1) left more
+    clause_others n line left others clause number is (inl are) = absurd (blank-no-clause line (kind_of clause) are.0 is)
+    clause_others n line left others clause number is (inr are) =
+        let same : are.0 ≡ clause = same_clause are.0 clause (are.3 ∙ sym number) (clause-once line (kind_of are.0) (kind_of clause) are.4 is) in
+        (are.1, are.2 ∙ ap (λ c. c ∷ are.1) same, are.5)
+
+-- a line that is refused
+pub HasNoClauses-refused : (lines : List (List ℕ)) (clauses : List Clause) (n : ℕ) (line : List ℕ) (left : List (List ℕ))
+    → HasClauses lines clauses n (line ∷ left) → (Spells [] line → ⊥) × ((kind : ClauseKind) → IsClause line kind → ⊥) → HasNoClauses lines
+HasNoClauses-refused lines clauses n line left so_far refused = λ all are.
+    let rest : (others : List Clause) × (all ≡ clauses ++ others) × AreClauses n (line ∷ left) others = so_far.only all are in
+    no_others n line left rest.0 refused rest.2
+  where
+    no_others : (n : ℕ) (line : List ℕ) (left : List (List ℕ)) (others : List Clause) → (Spells [] line → ⊥) × ((kind : ClauseKind) → IsClause line kind → ⊥)
+        → AreClauses n (line ∷ left) others → ⊥
+    no_others n line left others refused (inl are) = refused.0 are.0
+    no_others n line left others refused (inr are) = refused.1 (kind_of are.0) are.4
+
+-- all lines were read
+pub AreClauses-read : (lines : List (List ℕ)) (clauses : List Clause) (n : ℕ) → HasClauses lines clauses n [] → AreClauses 1 lines clauses
+AreClauses-read lines clauses n so_far =
+    subst (λ (cs : List Clause). AreClauses 1 lines cs) (append-nil clauses) (so_far.joins [] refl)
+
+-- the lines that are left begin with the next one
+pub line-ahead : (lines : List (List ℕ)) (i : ℕ) (line : List ℕ) → i < length lines → line ≡ get_or lines i line → drop i lines ≡ line ∷ drop (i + 1) lines
+line-ahead lines i line within is =
+    drop-cons lines i line within ∙ ap (λ x. x ∷ drop (suc i) lines) (sym is) ∙ ap (λ n. line ∷ drop n lines) (sym (add-one i))
+
+-- what was read of a line's bytes is what the line is
+pub read-is : (line bytes : List ℕ) (found read : Line) → bytes ≡ line → found ≡ read → IsLineRead bytes found → IsLineRead line read
+read-is line bytes found read same is known =
+    subst (λ (r : Line). IsLineRead line r) is (subst (λ (xs : List ℕ). IsLineRead xs found) same known)
+
+pub HasClauses-at : (lines : List (List ℕ)) (clauses : List Clause) (n i : ℕ) (line : List ℕ)
+    → HasClauses lines clauses n (drop i lines) → i < length lines → line ≡ get_or lines i line → HasClauses lines clauses n (line ∷ drop (i + 1) lines)
+HasClauses-at lines clauses n i line so_far within is =
+    subst (λ (left : List (List ℕ)). HasClauses lines clauses n left) (line-ahead lines i line within is) so_far
+
+pub HasClauses-pushed : (lines : List (List ℕ)) (clauses longer : List Clause) (n : ℕ) (line : List ℕ) (left : List (List ℕ)) (clause : Clause)
+    → HasClauses lines clauses n (line ∷ left) → line_of clause ≡ n → IsClause line (kind_of clause) → longer ≡ clauses ++ clause ∷ []
+    → HasClauses lines longer (n + 1) left
+HasClauses-pushed lines clauses longer n line left clause so_far number is pushed =
+    subst (λ (cs : List Clause). HasClauses lines cs (n + 1) left) (sym pushed) (HasClauses-clause lines clauses n line left clause so_far number is)
+
+pub HasClauses-passed : (lines : List (List ℕ)) (clauses same : List Clause) (n : ℕ) (line : List ℕ) (left : List (List ℕ))
+    → HasClauses lines clauses n (line ∷ left) → Spells [] line → same ≡ clauses → HasClauses lines same (n + 1) left
+HasClauses-passed lines clauses same n line left so_far blank is =
+    subst (λ (cs : List Clause). HasClauses lines cs (n + 1) left) (sym is) (HasClauses-blank lines clauses n line left so_far blank)
+
+pub HasClauses-end : (lines : List (List ℕ)) (clauses : List Clause) (n i : ℕ) → HasClauses lines clauses n (drop i lines) → length lines ≤ i → AreClauses 1 lines clauses
+HasClauses-end lines clauses n i so_far past =
+    AreClauses-read lines clauses n (subst (λ (left : List (List ℕ)). HasClauses lines clauses n left) (drop_of_length-le lines past) so_far)

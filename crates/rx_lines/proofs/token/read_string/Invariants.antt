@@ -1,0 +1,12 @@
+use Rattle.std.proofs.Common.{◌≡◌, ◌≤◌, ◌+◌, length, []}
+use Rattle.rx_lines.specs.Reader.{string_from}
+use Rattle.rx_lines.proofs.token.read_string.Given as goal
+
+-- the string goes on from the text so far
+abbrev pub invariant-loop-rest : goal.invariant-loop-rest
+invariant-loop-rest l =
+    (string_from l.quote l.text.items l.rest ≡ string_from l.quote [] l.bytes)
+    × (length l.text.items + length l.rest ≤ length l.bytes)
+
+abbrev pub decreases-loop-rest : goal.decreases-loop-rest
+decreases-loop-rest l = length l.rest

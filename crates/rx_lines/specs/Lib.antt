@@ -1,0 +1,5 @@
+pub mod Tokens
+pub mod Clauses
+pub mod Programs
+pub mod Reader
+pub mod LineRead

@@ -1,0 +1,73 @@
+-- Which tokens a line is written with.
+use Rattle.std.specs.Prelude.{◌≡◌, ℕ, Bool, false, ◌==◌, ◌||◌, ◌&&◌, not, nat_le, List, [], ◌∷◌, ◌++◌, IsTrue, ◌⊎◌, if◌then◌else◌}
+use Rattle.std.specs.List.{list_all}
+use Rattle.std.specs.Str.{str_to_ascii_uppercase}
+use Rattle.rx_tree.specs.declared.token.TokenKind.{TokenKind}
+use Rattle.rx_tree.specs.declared.token.TokenKind.TheVariants.{Simple, Quoted}
+
+-- A blank is a space or a tab.
+abbrev pub is_blank : ℕ → Bool
+is_blank b = (b == 32) || (b == 9)
+
+abbrev pub is_between : ℕ → ℕ → ℕ → Bool
+is_between low high b = nat_le low b && nat_le b high
+
+abbrev pub is_digit : ℕ → Bool
+is_digit b = is_between 48 57 b
+
+abbrev pub is_letter : ℕ → Bool
+is_letter b = is_between 97 122 b || is_between 65 90 b
+
+-- A byte of a name: a letter, a digit, `!`, `?` or `_`.
+abbrev pub is_name_byte : ℕ → Bool
+is_name_byte b = is_letter b || (is_digit b || ((b == 33) || ((b == 63) || (b == 95))))
+
+-- A byte of a symbol is one of a name, or a period.
+abbrev pub is_symbol_byte : ℕ → Bool
+is_symbol_byte b = is_name_byte b || (b == 46)
+
+-- A name begins with a byte of a name that is no digit.
+abbrev pub is_name : List ℕ → Bool
+is_name [] = false
+is_name (first ∷ bytes) = (is_name_byte first && not (is_digit first)) && list_all is_name_byte bytes
+
+-- whether the first of these bytes passes a test
+abbrev pub begins : (ℕ → Bool) → List ℕ → Bool
+begins test [] = false
+begins test (b ∷ bytes) = test b
+
+-- a text with each quote doubled
+abbrev pub doubled : ℕ → List ℕ → List ℕ
+doubled quote [] = []
+doubled quote (b ∷ text) = if b == quote then quote ∷ (quote ∷ doubled quote text) else b ∷ doubled quote text
+
+-- A string between quotes of one kind, in which a doubled quote is one; no further such quote follows.
+pub record IsQuoted (quote : ℕ) (text written rest : List ℕ) : Type 0 where
+  pub is : written ≡ quote ∷ (doubled quote text ++ quote ∷ [])
+  pub ends : begins (λ b. b == quote) rest ≡ false
+
+-- A name, with its letters in upper case; no further byte of a symbol follows.
+pub record IsNamed (name written rest : List ℕ) : Type 0 where
+  pub is_name : IsTrue (is_name written)
+  pub is : name ≡ str_to_ascii_uppercase written
+  pub ends : begins is_symbol_byte rest ≡ false
+
+-- A token is written so, in front of the rest: a string in single or double quotes.
+abbrev pub IsToken : TokenKind → List ℕ → List ℕ → Type 0
+IsToken (Simple name) written rest = IsNamed name written rest
+IsToken (Quoted text) written rest = IsQuoted 39 text written rest ⊎ IsQuoted 34 text written rest
+
+-- A line is blanks, a token, and a rest of which this holds.
+pub record Begins (kind : TokenKind) (Rest : List ℕ → Type 0) (line : List ℕ) : Type 0 where
+  pub blanks : List ℕ
+  pub written : List ℕ
+  pub rest : List ℕ
+  pub is : line ≡ blanks ++ (written ++ rest)
+  pub are_blanks : IsTrue (list_all is_blank blanks)
+  pub token : IsToken kind written rest
+  pub others : Rest rest
+
+-- A line is written with these tokens, in order, with blanks before, between and behind them.
+abbrev pub Spells : List TokenKind → List ℕ → Type 0
+Spells [] line = IsTrue (list_all is_blank line)
+Spells (kind ∷ kinds) line = Begins kind (λ rest. Spells kinds rest) line

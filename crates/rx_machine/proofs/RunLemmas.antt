@@ -1,0 +1,91 @@
+-- Runs that go on by picks at their end.
+use Rattle.std.proofs.Common.{◌≡◌, ℕ, ◌+◌, Bool, true, false, ◌&&◌, List, [], ◌∷◌, ◌++◌, length, Some, refl, sym, ◌∙◌, ap, subst, arith}
+use Rattle.std.specs.Prelude.{IsTrue}
+use Rattle.std.specs.Cmp.{first_so, second_so}
+use Rattle.rx_tree.specs.declared.note.Note.{Note}
+use Rattle.rx_tree.specs.World.{World}
+use Rattle.rx_machine.specs.Enabled.{enabled, robin}
+use Rattle.rx_machine.specs.Step.{Done, step}
+use Rattle.rx_machine.specs.End.{End, Going, Finished, Stuck, Spent, end}
+use Rattle.rx_machine.specs.Runs.{run, after, world_after, is_done, is_going, may_pick, legal, IsSerialAfter, last_of, SerialRun}
+use Rattle.rx_machine.proofs.StepLemmas.{Grown, Grown-same, Grown-then, after-grown, after-steps, after-unread}
+
+pub run-append : (w : World) (picks more : List ℕ) → run w (picks ++ more) ≡ run (run w picks) more
+run-append w [] more = refl
+run-append w (a ∷ picks) more = run-append (after w a) picks more
+
+pub run-grown : (w : World) (picks : List ℕ) → Grown w (run w picks)
+run-grown w [] = Grown-same w
+run-grown w (a ∷ picks) = Grown-then w (after w a) _ (after-grown w a) (run-grown (after w a) picks)
+
+both_so : (s t : Bool) → s ≡ true → t ≡ true → (s && t) ≡ true
+both_so true t first second = second
+both_so false t first second = first
+
+going-is : (e : End) → is_going e ≡ true → e ≡ Going
+going-is Going so = refl
+going-is Finished so = cc
+going-is Stuck so = cc
+going-is Spent so = cc
+
+pub picks-are-enabled : (w : World) (a : ℕ) → IsTrue (may_pick w a) → IsTrue (enabled w a) × (end w ≡ Going) × IsTrue (is_done (step w a))
+picks-are-enabled w a may =
+    let rest : (is_going (end w) && is_done (step w a)) ≡ true = second_so (enabled w a) _ may in
+    (first_so (enabled w a) _ may, going-is (end w) (first_so (is_going (end w)) _ rest), second_so (is_going (end w)) _ rest)
+
+pub may_pick-is : (w : World) (a : ℕ) → IsTrue (enabled w a) → end w ≡ Going → IsTrue (is_done (step w a)) → IsTrue (may_pick w a)
+may_pick-is w a can going done = both_so (enabled w a) _ can (both_so (is_going (end w)) _ (ap is_going going) done)
+
+pub run-steps : (w : World) (picks : List ℕ) → IsTrue (legal w picks) → (run w picks).steps ≡ w.steps + length picks
+run-steps w [] is_legal = omega arith
+run-steps w (a ∷ picks) is_legal =
+    let first : (after w a).steps ≡ w.steps + 1 = after-steps w a (picks-are-enabled w a (first_so (may_pick w a) _ is_legal)).2 in
+    let rest : (run (after w a) picks).steps ≡ (after w a).steps + length picks = run-steps (after w a) picks (second_so (may_pick w a) _ is_legal) in
+    omega arith
+
+pub legal-snoc : (w : World) (picks : List ℕ) (a : ℕ) → IsTrue (legal w picks) → IsTrue (may_pick (run w picks) a) → IsTrue (legal w (picks ++ a ∷ []))
+legal-snoc w [] a is_legal may = both_so (may_pick w a) true may refl
+legal-snoc w (b ∷ picks) a is_legal may =
+    both_so (may_pick w b) _ (first_so (may_pick w b) _ is_legal) (legal-snoc (after w b) picks a (second_so (may_pick w b) _ is_legal) may)
+
+pub last_of-snoc : (last : ℕ) (picks : List ℕ) (a : ℕ) → last_of last (picks ++ a ∷ []) ≡ a
+last_of-snoc last [] a = refl
+last_of-snoc last (b ∷ picks) a = last_of-snoc b picks a
+
+pub serial-snoc : (last : ℕ) (w : World) (picks : List ℕ) (a : ℕ)
+    → IsSerialAfter last w picks → robin (run w picks) (last_of last picks) ≡ Some a → IsSerialAfter last w (picks ++ a ∷ [])
+serial-snoc last w [] a serial next = (next, tt)
+serial-snoc last w (b ∷ picks) a serial next = (serial.0, serial-snoc b (after w b) picks a serial.1 next)
+
+-- a serial run goes on by its next pick
+pub SerialRun-snoc : (from : World) (picks : List ℕ) (to : World) (a : ℕ)
+    → SerialRun from picks to → IsTrue (may_pick to a) → robin to (last_of 0 picks) ≡ Some a → SerialRun from (picks ++ a ∷ []) (after to a)
+SerialRun-snoc from picks to a so_far may next = record {
+  legal = legal-snoc from picks a so_far.legal (subst (λ (w : World). IsTrue (may_pick w a)) (sym so_far.leads) may);
+  leads = run-append from picks (a ∷ []) ∙ ap (λ w. after w a) so_far.leads;
+  serial = serial-snoc 0 from picks a so_far.serial (subst (λ (w : World). robin w (last_of 0 picks) ≡ Some a) (sym so_far.leads) next);
+}
+
+pub output-grows : (w : World) (picks more : List ℕ) → (said : List ℕ) × ((run w (picks ++ more)).output ≡ (run w picks).output ++ said)
+output-grows w picks more =
+    let grown : Grown (run w picks) (run (run w picks) more) = run-grown (run w picks) more in
+    (grown.said, ap (λ v. v.output) (run-append w picks more) ∙ grown.output)
+
+pub notes-grow : (w : World) (picks more : List ℕ) → (noted : List Note) × ((run w (picks ++ more)).notes ≡ (run w picks).notes ++ noted)
+notes-grow w picks more =
+    let grown : Grown (run w picks) (run (run w picks) more) = run-grown (run w picks) more in
+    (grown.noted, ap (λ v. v.notes) (run-append w picks more) ∙ grown.notes)
+
+-- a serial run goes on by the next pick, to the world that its step gives
+pub SerialRun-next : (from : World) (picks longer : List ℕ) (to next : World) (last a : ℕ)
+    → SerialRun from picks to → last ≡ last_of 0 picks → robin to last ≡ Some a → IsTrue (may_pick to a) → step to a ≡ Done next
+    → longer ≡ picks ++ a ∷ [] → SerialRun from longer next
+SerialRun-next from picks longer to next last a so_far is_last circle may stepped pushed =
+    subst (λ (xs : List ℕ). SerialRun from xs next) (sym pushed)
+    (subst (λ (w : World). SerialRun from (picks ++ a ∷ []) w) (ap (world_after to) stepped)
+    (SerialRun-snoc from picks to a so_far may (ap (robin to) (sym is_last) ∙ circle)))
+
+-- no step of the language that runs reads input
+pub run-unread : (w : World) (picks : List ℕ) → (run w picks).rest ≡ w.rest
+run-unread w [] = refl
+run-unread w (a ∷ picks) = run-unread (after w a) picks ∙ after-unread w a

@@ -1,0 +1,9 @@
+pub mod Opening
+pub mod Enabled
+pub mod Evaluation
+pub mod Step
+pub mod End
+pub mod Runs
+pub mod Input
+pub mod Texts
+pub mod Laws

@@ -1,0 +1,14 @@
+//! Tests of the interpreter and of its parts: whole calls by what they show, and each public call that allocates once with
+//! ample memory, since a body that always wants memory meets every contract.
+#![tactic(auto)]
+
+#[cfg(test)]
+mod adapters;
+#[cfg(test)]
+mod calls;
+#[cfg(test)]
+mod outside;
+#[cfg(test)]
+mod parts;
+#[cfg(test)]
+mod sources;

@@ -1,0 +1,4 @@
+pub mod MainLemmas
+pub mod Loads
+pub mod Plays
+pub mod Endings

@@ -1,0 +1,47 @@
+-- The worlds of one activity: which pick is next.
+use Rattle.std.proofs.Common.{◌≡◌, ◌<◌, ℕ, zero, suc, ◌+◌, Bool, true, cond, ◌&&◌, List, [], ◌∷◌, drop, None, Some, refl, sym, ◌∙◌, ap, subst}
+use Rattle.std.specs.Prelude.{IsTrue}
+use Rattle.std.proofs.lemmas.Bool.{lt-leb}
+use Rattle.rx_tree.specs.declared.clause.Clause.{Clause}
+use Rattle.rx_tree.specs.declared.clause.Package.{Package}
+use Rattle.rx_tree.specs.World.{World, Activity}
+use Rattle.rx_machine.specs.Enabled.{may_step, least_from, or_else, robin}
+use Rattle.rx_machine.specs.Step.{step}
+use Rattle.rx_machine.specs.End.{Going, Spent}
+use Rattle.rx_machine.specs.Runs.{is_done, is_going, may_pick}
+use Rattle.rx_top.specs.MainWorld.{main_world, main_activity}
+
+drop-none : (n : ℕ) → drop n (let none : List Activity = [] in none) ≡ []
+drop-none zero = refl
+drop-none (suc n) = refl
+
+least-one : (w : World) (from : ℕ) (activity : Activity) → may_step w from activity ≡ true → least_from w from (activity ∷ []) ≡ Some from
+least-one w from activity may = ap (λ t. cond t (Some from) None) may
+
+-- the one activity is the next, whichever was the last
+pub robin-one : (w : World) (last : ℕ) (activity : Activity) → w.activities ≡ activity ∷ [] → may_step w 1 activity ≡ true → robin w last ≡ Some 1
+robin-one w zero activity one may =
+    ap (λ xs. or_else (least_from w 1 xs) (least_from w 1 xs)) one ∙ ap (λ found. or_else found found) (least-one w 1 activity may)
+robin-one w (suc last) activity one may =
+    ap (λ xs. or_else (least_from w (suc last + 1) (drop (suc last) xs)) (least_from w 1 xs)) one
+    ∙ ap (λ xs. or_else (least_from w (suc last + 1) xs) (least_from w 1 (activity ∷ []))) (drop-none last)
+    ∙ least-one w 1 activity may
+
+main-done : (program : Package) (left : List Clause) (output : List ℕ) (steps budget : ℕ) → is_done (step (main_world program left true output steps budget) 1) ≡ true
+main-done program [] output steps budget = refl
+main-done program (clause ∷ left) output steps budget = refl
+
+-- while the one activity is live and steps are left, it is the next, and may be picked
+main-goes : (program : Package) (left : List Clause) (output : List ℕ) (steps budget last : ℕ) → steps < budget
+    → (robin (main_world program left true output steps budget) last ≡ Some 1) × IsTrue (may_pick (main_world program left true output steps budget) 1)
+main-goes program left output steps budget last below = (
+  robin-one (main_world program left true output steps budget) last (main_activity program left true) refl refl,
+  ap (λ spent. is_going (cond spent Spent Going) && is_done (step (main_world program left true output steps budget) 1)) (lt-leb budget steps below)
+      ∙ main-done program left output steps budget,
+)
+
+pub main-next : (program : Package) (left : List Clause) (live : Bool) (output : List ℕ) (steps budget last : ℕ) → live ≡ true → steps < budget
+    → (robin (main_world program left live output steps budget) last ≡ Some 1) × IsTrue (may_pick (main_world program left live output steps budget) 1)
+main-next program left live output steps budget last is below =
+    subst (λ (b : Bool). (robin (main_world program left b output steps budget) last ≡ Some 1) × IsTrue (may_pick (main_world program left b output steps budget) 1))
+    (sym is) (main-goes program left output steps budget last below)

@@ -1,0 +1,13 @@
+use Rattle.std.proofs.Common.{◌≡◌, ◌∷◌, [], ◌++◌, sym, ◌∙◌, ap, rules}
+use Rattle.rx_machine.proofs.RunLemmas.{SerialRun-next, last_of-snoc}
+use Rattle.rx_machine.specs.Runs.{last_of}
+use Rattle.rx_top.proofs.kernel.run_serial.Goals as goal
+
+pub loop-a-preserved : goal.loop-a-preserved
+loop-a-preserved c =
+    let pushed : c.push.new.self.items ≡ c.loop-a.picks.items ++ c.in-Some.a ∷ [] = search rules in
+    record {
+      run = SerialRun-next c.args.kernel.now c.loop-a.picks.items c.push.new.self.items c.loop-a.kernel c.step.new.self c.loop-a.last c.in-Some.a
+          c.loop-a.invariant.run c.loop-a.invariant.last c.in-Some.ensures.0 c.in-Some.ensures.1 c.in_ok-step.ensures pushed;
+      last = sym (ap (last_of 0) pushed ∙ last_of-snoc 0 c.loop-a.picks.items c.in-Some.a);
+    }

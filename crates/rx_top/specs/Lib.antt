@@ -1,0 +1,9 @@
+pub mod Words
+pub mod MainWorld
+pub mod Kernel
+pub mod Loading
+pub mod Ports
+pub mod Runs
+pub mod Conclusions
+pub mod Telling
+pub mod Headline

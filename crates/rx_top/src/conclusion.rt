@@ -1,0 +1,42 @@
+// What a call has to tell.
+ghost use Rattle.std.specs.Prelude.{ℕ, List, [], IfOk};
+ghost use Rattle.rx_top.specs.Conclusions.{RanNothing};
+
+use std::alloc::{AllocError, Global};
+
+/// What a call has to tell: the status that it ends with, the steps and the schedule that it gives back, and the bytes
+/// for standard output and standard error.
+#[derive(Drop)]
+pub struct Conclusion {
+    pub status: u8,
+    pub steps: u64,
+    pub schedule: Vec<u32>,
+    pub output: Vec<u8>,
+    pub report: Vec<u8>,
+}
+
+impl Conclusion {
+    /// That nothing was run, with a status and a line for the report, or want of memory.
+    pub fn refused(alloc: Global, status: u8, line: &[u8]) -> Result<Conclusion, AllocError>
+        ensures { IfOk result (RanNothing status line.now) }
+    {
+        let report = Vec::from_slice(alloc, line)?;
+        Ok(Conclusion {
+            report,
+            ..Conclusion::silent(alloc, status)
+        })
+    }
+
+    /// That nothing was run, with a status alone.
+    pub fn silent(alloc: Global, status: u8) -> Conclusion
+        ensures { RanNothing status [] result }
+    {
+        Conclusion {
+            status,
+            steps: 0,
+            schedule: Vec::new(alloc),
+            output: Vec::new(alloc),
+            report: Vec::new(alloc),
+        }
+    }
+}

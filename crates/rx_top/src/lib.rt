@@ -1,0 +1,17 @@
+//! The top call: the words of a command line and the objects of the outside go in, a run of the machine comes out.
+//!
+//! `rexx_call` is all that the program does. Its contract is the headline.
+#![tactic(auto)]
+
+mod call;
+mod conclusion;
+mod kernel;
+mod loading;
+mod playing;
+mod telling;
+mod top;
+mod words;
+
+pub use call::rexx_call;
+pub use top::{Ended, rexx_plain};
+pub use words::{Request, WordsRefused, read_words};

@@ -1,0 +1,105 @@
+// The top call, on one thread.
+ghost use Rattle.std.specs.Prelude.{◌≡◌, ℕ, List, IfOk, map};
+ghost use Rattle.rx_top.specs.Conclusions.{Fulfils, Concludes};
+ghost use Rattle.rx_top.specs.Ports.{ports};
+ghost use Rattle.rx_top.specs.Headline.{IsAnswer, ByStatus};
+
+use crate::conclusion::Conclusion;
+use crate::loading::{Loaded, load};
+use crate::playing::play;
+use crate::telling::tell;
+use crate::words::{Request, WordsRefused, read_words};
+use rx_ports::{Accepted, Shelf, Sink, Source};
+use std::alloc::{AllocError, Global};
+
+/// What a call gives back.
+#[derive(Drop)]
+pub struct Ended<F, I, O, E> {
+    /// The exit status.
+    pub status: u8,
+    /// How many steps were taken.
+    pub steps: u64,
+    /// The activities that took the steps, in order.
+    pub schedule: Vec<u32>,
+    pub shelf: F,
+    pub input: I,
+    pub out: O,
+    pub err: E,
+}
+
+// Does what a request asks for, or wants memory.
+fn fulfil<F: Shelf>(alloc: Global, asks: &Request, shelf: &mut F) -> Result<Conclusion, AllocError>
+    ensures conclusion { IfOk result (Fulfils asks.now (F.files shelf.old) (F.faults shelf.old) (F.faults shelf.new)) }
+    ensures files { F.files shelf.new ≡ F.files shelf.old }
+{
+    match load(alloc, shelf, asks.program()) {
+        Loaded::Found(program) => play(alloc, program, asks.steps()),
+        Loaded::NoProgram => Conclusion::refused(alloc, 240, b"REX240 line 1 error 3\n"),
+        Loaded::ShelfFault => Conclusion::refused(alloc, 244, b"REX244 shelf\n"),
+        Loaded::NoMemory => Err(AllocError),
+    }
+}
+
+// What the words come to.
+fn conclude<F: Shelf>(alloc: Global, words: &[Vec<u8>], shelf: &mut F) -> Conclusion
+    ensures conclusion { Concludes (map (λ word. word.items) words.now) (F.files shelf.old) (F.faults shelf.old) (F.faults shelf.new) result }
+    ensures files { F.files shelf.new ≡ F.files shelf.old }
+{
+    let told = match read_words(alloc, words) {
+        Ok(asks) => fulfil(alloc, &asks, shelf),
+        Err(WordsRefused::NotARequest) => Conclusion::refused(alloc, 243, b"REX243 words\n"),
+        Err(WordsRefused::OutOfMemory) => Err(AllocError),
+    };
+    match told {
+        Ok(told) => told,
+        Err(_) => Conclusion::silent(alloc, 247),
+    }
+}
+
+/// Does what the words ask for, on one thread: runs a program, or refuses, and tells what came of it.
+///
+/// The headline for runs without workers is its contract: `answer` says what is told and given back, and why; `by_status`
+/// says the same by the status.
+pub fn rexx_plain<F: Shelf, I: Source, O: Sink, E: Sink>(
+    alloc: Global,
+    words: Vec<Vec<u8>>,
+    shelf: F,
+    input: I,
+    out: O,
+    err: E,
+) -> Ended<F, I, O, E>
+    ensures answer { IsAnswer (map (λ word. word.items) words.items)
+        (ports (F.files shelf) (F.faults shelf) (I.left input) (I.faults input) (O.held out) (O.faults out) (E.held err) (E.faults err))
+        (ports (F.files result.shelf) (F.faults result.shelf) (I.left result.input) (I.faults result.input) (O.held result.out) (O.faults result.out) (E.held result.err) (E.faults result.err))
+        result.status result.steps result.schedule.items }
+    ensures by_status { ByStatus (map (λ word. word.items) words.items)
+        (ports (F.files shelf) (F.faults shelf) (I.left input) (I.faults input) (O.held out) (O.faults out) (E.held err) (E.faults err))
+        (ports (F.files result.shelf) (F.faults result.shelf) (I.left result.input) (I.faults result.input) (O.held result.out) (O.faults result.out) (E.held result.err) (E.faults result.err))
+        result.status result.steps result.schedule.items }
+    ensures files { F.files result.shelf ≡ F.files shelf }
+    ensures input { I.left result.input ≡ I.left input }
+{
+    let mut shelf = shelf;
+    let mut out = out;
+    let mut err = err;
+    let told = conclude(alloc, words.as_slice(), &mut shelf);
+    let status = match tell(
+        &mut out,
+        &mut err,
+        told.output.as_slice(),
+        told.report.as_slice(),
+    ) {
+        Accepted::All => told.status,
+        Accepted::Failed => 246,
+        Accepted::NoMemory => 247,
+    };
+    Ended {
+        status,
+        steps: told.steps,
+        schedule: told.schedule,
+        shelf,
+        input,
+        out,
+        err,
+    }
+}

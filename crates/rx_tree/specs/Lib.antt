@@ -1,0 +1,4 @@
+pub mod Bytes
+pub mod Object
+pub mod Frame
+pub mod World

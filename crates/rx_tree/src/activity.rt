@@ -1,0 +1,54 @@
+// The small parts of activities, frames and messages.
+use crate::text::Text;
+use crate::value::Value;
+
+/// What a frame runs.
+#[derive(Clone, Copy, Debug, PartialEq, Eq)]
+pub enum FrameKind {
+    /// The main program.
+    Main,
+    Method,
+    /// A routine of a `::ROUTINE` directive.
+    Routine,
+    /// A label's clauses, called from a frame of the same body.
+    Internal,
+}
+
+/// What `TRACE` is set to in a frame.
+#[derive(Clone, Copy, Debug, PartialEq, Eq)]
+pub enum TraceSetting {
+    All,
+    Results,
+    Normal,
+    Off,
+}
+
+/// A condition that a frame may trap.
+#[derive(Drop)]
+pub enum Condition {
+    Syntax,
+    NoValue,
+    NoMethod,
+    /// A condition of the program's own, by its name in upper case.
+    User(Text),
+}
+
+/// The condition that a frame trapped last.
+#[derive(Drop)]
+pub struct Caught {
+    pub name: Text,
+    pub detail: Text,
+    /// Whether a trap of `CALL ON` took it, not one of `SIGNAL ON`.
+    pub by_call: bool,
+}
+
+/// What a Message object's message has come to.
+#[derive(Drop)]
+pub enum Outcome {
+    /// It isn't complete.
+    Waiting,
+    /// It gave this value.
+    Given(Value),
+    /// It ended by the error of this number.
+    Failed(u8),
+}

@@ -1,0 +1,41 @@
+// Clauses, bodies and packages.
+use crate::class::ClassDef;
+use crate::expr::Expr;
+use crate::text::Text;
+use sqlite_items::Items;
+
+/// What a clause does.
+#[derive(Drop)]
+pub enum ClauseKind {
+    /// `SAY`, with the expression whose string is written, if there is one.
+    Say(Option<Expr>),
+}
+
+/// A clause, with the line of the source that it begins on, from 1.
+#[derive(Drop)]
+pub struct Clause {
+    pub line: u32,
+    pub kind: ClauseKind,
+}
+
+/// The clauses of the main program, of a method or of a routine, in order.
+#[derive(Drop)]
+pub struct Body {
+    pub clauses: Items<Clause>,
+}
+
+/// A program: what a source means.
+#[derive(Drop)]
+pub struct Package {
+    /// The clauses before the first directive.
+    pub main: Body,
+    /// The bodies of methods and routines in directive order. Their numbers are their places here, from 0; the main
+    /// body has the number after the last one.
+    pub bodies: Items<Body>,
+    /// The classes, in the order in which they are installed.
+    pub classes: Items<ClassDef>,
+    /// The routines, each a name and the number of its body.
+    pub routines: Items<(Text, u32)>,
+    /// The lines of the source, without the bytes that end them.
+    pub lines: Items<Text>,
+}

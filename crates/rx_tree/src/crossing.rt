@@ -1,0 +1,46 @@
+//! What a run keeps may be sent to another thread, and shared with it: each call here compiles for its type alone.
+
+use crate::activity::{Caught, Outcome};
+use crate::clause::Package;
+use crate::name::Derived;
+use crate::note::Note;
+use crate::text::Text;
+use crate::value::Value;
+use std::sync::Arc;
+
+fn crosses_threads<T: Send + Sync>(_value: &T) {}
+
+/// A text may be sent and shared.
+pub fn text_crosses(text: &Text) {
+    crosses_threads(text);
+}
+
+/// A value may be sent and shared.
+pub fn value_crosses(value: &Value) {
+    crosses_threads(value);
+}
+
+/// A name may be sent and shared.
+pub fn derived_crosses(name: &Derived) {
+    crosses_threads(name);
+}
+
+/// A trapped condition may be sent and shared.
+pub fn caught_crosses(caught: &Caught) {
+    crosses_threads(caught);
+}
+
+/// A message's outcome may be sent and shared.
+pub fn outcome_crosses(outcome: &Outcome) {
+    crosses_threads(outcome);
+}
+
+/// A note may be sent and shared.
+pub fn note_crosses(note: &Note) {
+    crosses_threads(note);
+}
+
+/// A program that several owners share may be sent and shared.
+pub fn package_crosses(program: &Arc<Package>) {
+    crosses_threads(program);
+}

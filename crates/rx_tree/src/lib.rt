@@ -1,0 +1,30 @@
+//! The values and trees of a program, and the records of the machine that runs it.
+//!
+//! A tree is plain data: contracts see a text as its bytes and a list as a list. The records of the machine stand in
+//! `specs/` alone: `World`, `Frame` and `Object` are what every statement on runs speaks of.
+#![tactic(auto)]
+
+mod activity;
+mod class;
+mod clause;
+mod crossing;
+mod expr;
+mod name;
+mod note;
+mod text;
+mod token;
+mod value;
+
+pub use activity::{Caught, Condition, FrameKind, Outcome, TraceSetting};
+pub use class::{ClassDef, MethodDef, Scope};
+pub use clause::{Body, Clause, ClauseKind, Package};
+pub use crossing::{
+    caught_crosses, derived_crosses, note_crosses, outcome_crosses, package_crosses, text_crosses,
+    value_crosses,
+};
+pub use expr::Expr;
+pub use name::{Derived, Place};
+pub use note::Note;
+pub use text::{OutOfMemory, Text};
+pub use token::TokenKind;
+pub use value::Value;
