@@ -52,7 +52,7 @@ said-fits (Quoted text ∷ []) kind is =
     let same : Say (Some (Const (Str text))) ≡ kind = cc in
     subst (λ (k : ClauseKind). Fits (Simple (codes "SAY") ∷ (Quoted text ∷ [])) k) same (Quoted text ∷ [], refl, refl)
 said-fits (Quoted text ∷ (other ∷ others)) kind is = cc
-said-fits (Simple name ∷ others) kind is = cc
+said-fits (_ ∷ others) kind is = cc
 
 say-fits : (name : List ℕ) (operand : List TokenKind) (kind : ClauseKind) (says : Bool) → bytes_eq name (codes "SAY") ≡ says
     → cond says (said_by operand) None ≡ Some kind → Fits (Simple name ∷ operand) kind
@@ -64,8 +64,8 @@ say-fits name operand kind false tested is = cc
 -- What the reader takes is a clause of the tokens.
 pub is-fits : (kinds : List TokenKind) (kind : ClauseKind) → clause_of kinds ≡ Some kind → Fits kinds kind
 is-fits [] kind is = cc
-is-fits (Quoted text ∷ operand) kind is = cc
 is-fits (Simple name ∷ operand) kind is = say-fits name operand kind (bytes_eq name (codes "SAY")) refl is
+is-fits (_ ∷ operand) kind is = cc
 
 none-not-some : {A : Type 0} (found : Option A) (x : A) → found ≡ None → found ≡ Some x → ⊥
 none-not-some None x none some = cc

@@ -142,6 +142,7 @@ written-some (Quoted text) rest written (inl token) =
     let same : length written ≡ suc (length (doubled 39 text ++ 39 ∷ [])) = ap length token.is in omega arith
 written-some (Quoted text) rest written (inr token) =
     let same : length written ≡ suc (length (doubled 34 text ++ 34 ∷ [])) = ap length token.is in omega arith
+written-some _ rest written token = absurd token
 
 pub first_token-shorter : (kind : TokenKind) (rest bytes : List ℕ) → first_token bytes ≡ Some (kind, rest) → length rest < length bytes
 first_token-shorter kind rest bytes first =

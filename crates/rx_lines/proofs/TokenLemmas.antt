@@ -219,6 +219,7 @@ pub first_token-is : (kind : TokenKind) (rest written : List ℕ) → IsToken ki
 first_token-is (Simple name) rest written token = first_token-name name rest written token
 first_token-is (Quoted text) rest written (inl token) = ap (λ xs. first_token (xs ++ rest)) token.is ∙ string-of 39 text rest token.ends
 first_token-is (Quoted text) rest written (inr token) = ap (λ xs. first_token (xs ++ rest)) token.is ∙ string-of 34 text rest token.ends
+first_token-is _ rest written token = absurd token
 
 -- A token begins with no blank.
 pub token-front : (kind : TokenKind) (rest written : List ℕ) → IsToken kind written rest → begins is_blank (written ++ rest) ≡ false
@@ -227,6 +228,7 @@ token-front (Simple name) rest (b ∷ written) token =
     no-blank b (first_so (is_name_byte b) _ (name-bytes (b ∷ written) token.is_name).0)
 token-front (Quoted text) rest written (inl token) = ap (λ xs. begins is_blank (xs ++ rest)) token.is
 token-front (Quoted text) rest written (inr token) = ap (λ xs. begins is_blank (xs ++ rest)) token.is
+token-front _ rest written token = absurd token
 
 -- What the reader takes is written so.
 

@@ -52,10 +52,11 @@ pub record IsNamed (name written rest : List ℕ) : Type 0 where
   pub is : name ≡ str_to_ascii_uppercase written
   pub ends : begins is_symbol_byte rest ≡ false
 
--- A token is written so, in front of the rest: a string in single or double quotes.
+-- A token is written so, in front of the rest: a string in single or double quotes. The line form has no other tokens.
 abbrev pub IsToken : TokenKind → List ℕ → List ℕ → Type 0
 IsToken (Simple name) written rest = IsNamed name written rest
 IsToken (Quoted text) written rest = IsQuoted 39 text written rest ⊎ IsQuoted 34 text written rest
+IsToken _ written rest = ⊥
 
 -- A line is blanks, a token, and a rest of which this holds.
 pub record Begins (kind : TokenKind) (Rest : List ℕ → Type 0) (line : List ℕ) : Type 0 where

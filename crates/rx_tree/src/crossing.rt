@@ -5,6 +5,7 @@ use crate::clause::Package;
 use crate::name::Derived;
 use crate::note::Note;
 use crate::text::Text;
+use crate::token::Token;
 use crate::value::Value;
 use std::sync::Arc;
 
@@ -18,6 +19,11 @@ pub fn text_crosses(text: &Text) {
 /// A value may be sent and shared.
 pub fn value_crosses(value: &Value) {
     crosses_threads(value);
+}
+
+/// A token may be sent and shared.
+pub fn token_crosses(token: &Token) {
+    crosses_threads(token);
 }
 
 /// A name may be sent and shared.

@@ -20,11 +20,11 @@ pub use class::{ClassDef, MethodDef, Scope};
 pub use clause::{Body, Clause, ClauseKind, Package};
 pub use crossing::{
     caught_crosses, derived_crosses, note_crosses, outcome_crosses, package_crosses, text_crosses,
-    value_crosses,
+    token_crosses, value_crosses,
 };
 pub use expr::Expr;
-pub use name::{Derived, Place};
+pub use name::{Derived, Name, Part, Place};
 pub use note::Note;
 pub use text::{OutOfMemory, Text};
-pub use token::TokenKind;
+pub use token::{Oper, Token, TokenKind};
 pub use value::Value;

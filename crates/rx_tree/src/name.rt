@@ -1,5 +1,26 @@
-// The names of variables once their tails are known, and the places where they live.
+// The names of variables, as they are written and once their tails are known, and the places where they live.
 use crate::text::Text;
+use sqlite_items::Items;
+
+/// A part of the tail of a compound symbol, between two periods.
+#[derive(Drop)]
+pub enum Part {
+    /// It stands for itself.
+    Fixed(Text),
+    /// It names a simple variable, whose value takes its place.
+    Of(Text),
+}
+
+/// A variable's name as it is written. Letters are in upper case.
+#[derive(Drop)]
+pub enum Name {
+    /// A simple variable.
+    Simple(Text),
+    /// A stem, with its period.
+    Stem(Text),
+    /// A compound variable: its stem with the period, and the parts of its tail.
+    Compound(Text, Items<Part>),
+}
 
 /// A variable's name whose tail parts are replaced by their values. Letters are in upper case.
 #[derive(Drop)]
