@@ -5,22 +5,24 @@ use Rattle.std.proofs.lemmas.List.{append-nil}
 use Rattle.std.specs.Str.{bytes_eq}
 use Rattle.std.specs.Str.Lines.{lines}
 use Rattle.std.proofs.lemmas.Slice.Eq.{bytes_eq-Decides}
+use Rattle.rx_tree.specs.declared.token.Oper.{Oper}
+use Rattle.rx_tree.specs.declared.token.Oper.TheVariants.{Concat, Equal}
 use Rattle.rx_tree.specs.declared.token.TokenKind.{TokenKind}
-use Rattle.rx_tree.specs.declared.token.TokenKind.TheVariants.{Simple, Quoted}
-use Rattle.rx_tree.specs.declared.value.Value.{Value}
-use Rattle.rx_tree.specs.declared.value.Value.TheVariants.{Str, Ref}
+use Rattle.rx_tree.specs.declared.token.TokenKind.TheVariants as token
+use Rattle.rx_tree.specs.declared.value.Value.TheVariants.{Str}
+use Rattle.rx_tree.specs.declared.name.Name.TheVariants as name
 use Rattle.rx_tree.specs.declared.expr.Expr.{Expr}
-use Rattle.rx_tree.specs.declared.expr.Expr.TheVariants.{Const, Hole}
+use Rattle.rx_tree.specs.declared.expr.Expr.TheVariants as expr
 use Rattle.rx_tree.specs.declared.clause.Clause.{Clause}
 use Rattle.rx_tree.specs.declared.clause.ClauseKind.{ClauseKind}
-use Rattle.rx_tree.specs.declared.clause.ClauseKind.TheVariants.{Say}
+use Rattle.rx_tree.specs.declared.clause.ClauseKind.TheVariants.{Say, Assign}
 use Rattle.rx_tree.specs.declared.clause.Body.{Body}
 use Rattle.rx_tree.specs.declared.class.ClassDef.{ClassDef}
 use Rattle.rx_tree.specs.declared.clause.Package.{Package}
 use Rattle.rx_lines.specs.Tokens.{Spells}
-use Rattle.rx_lines.specs.Clauses.{FitsValue, FitsExpr, FitsSay, Fits, IsClause}
+use Rattle.rx_lines.specs.Clauses.{FitsOperand, FitsOperands, FitsExpr, FitsSay, Fits, IsClause, chained}
 use Rattle.rx_lines.specs.Programs.{AreClauses, IsProgram, kind_of, line_of}
-use Rattle.rx_lines.specs.Reader.{said_by, clause_of, first_token, without_blanks, AreTokens, HasNoTokens}
+use Rattle.rx_lines.specs.Reader.{operand_of, is_concat, with_operand, operands_of, expr_with, expr_of, say_with, assign_with, is_equal, named_clause, clause_of, first_token, without_blanks, AreTokens, HasNoTokens}
 use Rattle.std.proofs.Math.Seq.{drop-cons}
 use Rattle.std.proofs.Math.ListN.{drop_of_length-le}
 use Rattle.rx_lines.specs.declared.program.Line.{Line}
@@ -28,44 +30,184 @@ use Rattle.rx_lines.specs.LineRead.{IsLineRead, HasNoClauses}
 use Rattle.rx_lines.proofs.Blanks.{without_blanks-all}
 use Rattle.rx_lines.proofs.SpellLemmas.{Comes, spells-comes}
 
-fits-value : (operand : List TokenKind) (value : Value) → FitsValue operand value → said_by operand ≡ Some (Say (Some (Const value)))
-fits-value operand (Str text) fits = ap said_by fits
-fits-value operand (Ref object) fits = absurd fits
+-- two values of which the options are one
+some-is : {A : Type 0} (x y : A) → Some x ≡ Some y → x ≡ y
+some-is x y is = cc
 
-fits-expr : (operand : List TokenKind) (expr : Expr) → FitsExpr operand expr → said_by operand ≡ Some (Say (Some expr))
-fits-expr operand (Const value) fits = fits-value operand value fits
-fits-expr operand Hole fits = absurd fits
+-- Operands and expressions.
 
-fits-say : (kinds : List TokenKind) (given : Option Expr) → FitsSay kinds given → clause_of kinds ≡ Some (Say given)
-fits-say kinds None fits = ap clause_of fits
-fits-say kinds (Some expr) fits = ap clause_of fits.1 ∙ fits-expr fits.0 expr fits.2
+operand-is : (kind : TokenKind) (operand : Expr) → FitsOperand kind operand → operand_of kind ≡ Some operand
+operand-is (token.Quoted text) operand fits = ap Some (sym fits)
+operand-is (token.Simple text) operand fits = ap Some (sym fits)
+operand-is _ operand fits = absurd fits
+
+is-operand : (kind : TokenKind) (operand : Expr) → operand_of kind ≡ Some operand → FitsOperand kind operand
+is-operand (token.Quoted text) operand is = some-is operand (expr.Const (Str text)) (sym is)
+is-operand (token.Simple text) operand is = some-is operand (expr.Name (name.Simple text)) (sym is)
+is-operand _ operand is = cc
+
+operands-is : (kinds : List TokenKind) (operands : List (Oper × Expr)) → FitsOperands kinds operands → operands_of kinds ≡ Some operands
+operands-is [] operands fits = ap Some (sym fits)
+operands-is (sign ∷ []) operands fits = absurd fits
+operands-is (sign ∷ (kind ∷ kinds)) operands fits =
+    ap (λ s. cond (is_concat s) (with_operand (operand_of kind) (operands_of kinds)) None) fits.3
+    ∙ ap (λ o. with_operand o (operands_of kinds)) (operand-is kind fits.0 fits.4)
+    ∙ ap (λ o. with_operand (Some fits.0) o) (operands-is kinds fits.1 fits.5)
+    ∙ ap Some (sym fits.2)
+
+concat-is : (sign : TokenKind) → is_concat sign ≡ true → sign ≡ token.Operator Concat
+concat-is (token.Operator Concat) is = refl
+concat-is _ is = cc
+
+-- the parts of operands that were read
+record HasOperands (found : Option Expr) (behind : Option (List (Oper × Expr))) (operands : List (Oper × Expr)) : Type 0 where
+  pub operand : Expr
+  pub others : List (Oper × Expr)
+  pub first : found ≡ Some operand
+  pub rest : behind ≡ Some others
+  pub is : operands ≡ (Concat, operand) ∷ others
+
+has-operands : (found : Option Expr) (behind : Option (List (Oper × Expr))) (operands : List (Oper × Expr))
+    → with_operand found behind ≡ Some operands → HasOperands found behind operands
+has-operands None behind operands is = cc
+has-operands (Some operand) None operands is = cc
+has-operands (Some operand) (Some others) operands is =
+    record { operand = operand; others = others; first = refl; rest = refl; is = some-is operands ((Concat, operand) ∷ others) (sym is) }
+
+cond-some : {A : Type 0} (t : Bool) (x : Option A) (y : A) → cond t x None ≡ Some y → (t ≡ true) × (x ≡ Some y)
+cond-some true x y is = (refl, is)
+cond-some false x y is = cc
+
+is-operands : (kinds : List TokenKind) (operands : List (Oper × Expr)) → operands_of kinds ≡ Some operands → FitsOperands kinds operands
+is-operands [] operands is = some-is operands [] (sym is)
+is-operands (sign ∷ []) operands is = cc
+is-operands (sign ∷ (kind ∷ kinds)) operands is =
+    let tested : (is_concat sign ≡ true) × (with_operand (operand_of kind) (operands_of kinds) ≡ Some operands) =
+    cond-some (is_concat sign) (with_operand (operand_of kind) (operands_of kinds)) operands is in
+    let parts : HasOperands (operand_of kind) (operands_of kinds) operands = has-operands (operand_of kind) (operands_of kinds) operands tested.1 in (
+      parts.operand,
+      parts.others,
+      parts.is,
+      concat-is sign tested.0,
+      is-operand kind parts.operand parts.first,
+      is-operands kinds parts.others parts.rest,
+    )
+
+expr-is : (kinds : List TokenKind) (tree : Expr) → FitsExpr kinds tree → expr_of kinds ≡ Some tree
+expr-is [] tree fits = absurd fits
+expr-is (kind ∷ kinds) tree fits =
+    ap (λ o. expr_with o (operands_of kinds)) (operand-is kind fits.0 fits.2)
+    ∙ ap (λ o. expr_with (Some fits.0) o) (operands-is kinds fits.1 fits.3)
+    ∙ ap Some (sym fits.4)
+
+-- the parts of an expression that was read
+record HasParts (found : Option Expr) (behind : Option (List (Oper × Expr))) (tree : Expr) : Type 0 where
+  pub operand : Expr
+  pub operands : List (Oper × Expr)
+  pub first : found ≡ Some operand
+  pub rest : behind ≡ Some operands
+  pub is : tree ≡ chained operand operands
+
+has-parts : (found : Option Expr) (behind : Option (List (Oper × Expr))) (tree : Expr) → expr_with found behind ≡ Some tree → HasParts found behind tree
+has-parts None behind tree is = cc
+has-parts (Some operand) None tree is = cc
+has-parts (Some operand) (Some operands) tree is =
+    record { operand = operand; operands = operands; first = refl; rest = refl; is = some-is tree (chained operand operands) (sym is) }
+
+is-expr : (kinds : List TokenKind) (tree : Expr) → expr_of kinds ≡ Some tree → FitsExpr kinds tree
+is-expr [] tree is = cc
+is-expr (kind ∷ kinds) tree is =
+    let parts : HasParts (operand_of kind) (operands_of kinds) tree = has-parts (operand_of kind) (operands_of kinds) tree is in (
+      parts.operand,
+      parts.operands,
+      is-operand kind parts.operand parts.first,
+      is-operands kinds parts.operands parts.rest,
+      parts.is,
+    )
+
+-- Clauses.
+
+-- an expression doesn't begin with `=`
+no-equal-sign : (kind : TokenKind) (operand : Expr) → FitsOperand kind operand → is_equal kind ≡ false
+no-equal-sign (token.Quoted text) operand fits = refl
+no-equal-sign (token.Simple text) operand fits = refl
+no-equal-sign _ operand fits = absurd fits
+
+said-is : (behind : List TokenKind) (said : Expr) → FitsExpr behind said → clause_of (token.Simple (codes "SAY") ∷ behind) ≡ Some (Say (Some said))
+said-is [] said fits = absurd fits
+said-is (kind ∷ kinds) said fits =
+    ap (λ t. cond t (assign_with (codes "SAY") (expr_of kinds)) (say_with (expr_of (kind ∷ kinds)))) (no-equal-sign kind fits.0 fits.2)
+    ∙ ap say_with (expr-is (kind ∷ kinds) said fits)
+
+say-is : (kinds : List TokenKind) (given : Option Expr) → FitsSay kinds given → clause_of kinds ≡ Some (Say given)
+say-is kinds None fits = ap clause_of fits
+say-is kinds (Some said) fits = ap clause_of fits.1 ∙ said-is fits.0 said fits.2
 
 -- Tokens of a clause are read as it.
 pub fits-is : (kinds : List TokenKind) (kind : ClauseKind) → Fits kinds kind → clause_of kinds ≡ Some kind
-fits-is kinds (Say given) fits = fits-say kinds given fits
+fits-is kinds (Say given) fits = say-is kinds given fits
+fits-is kinds (Assign (name.Simple text) value) fits = ap clause_of fits.1 ∙ ap (assign_with text) (expr-is fits.0 value fits.2)
 
--- what SAY says is read as it is written
-said-fits : (operand : List TokenKind) (kind : ClauseKind) → said_by operand ≡ Some kind → Fits (Simple (codes "SAY") ∷ operand) kind
-said-fits [] kind is =
-    let same : Say None ≡ kind = cc in subst (λ (k : ClauseKind). Fits (Simple (codes "SAY") ∷ []) k) same refl
-said-fits (Quoted text ∷ []) kind is =
-    let same : Say (Some (Const (Str text))) ≡ kind = cc in
-    subst (λ (k : ClauseKind). Fits (Simple (codes "SAY") ∷ (Quoted text ∷ [])) k) same (Quoted text ∷ [], refl, refl)
-said-fits (Quoted text ∷ (other ∷ others)) kind is = cc
-said-fits (_ ∷ others) kind is = cc
+equal-is : (sign : TokenKind) → is_equal sign ≡ true → sign ≡ token.Operator Equal
+equal-is (token.Operator Equal) is = refl
+equal-is _ is = cc
 
-say-fits : (name : List ℕ) (operand : List TokenKind) (kind : ClauseKind) (says : Bool) → bytes_eq name (codes "SAY") ≡ says
-    → cond says (said_by operand) None ≡ Some kind → Fits (Simple name ∷ operand) kind
-say-fits name operand kind true tested is =
-    let same : name ≡ codes "SAY" = (bytes_eq-Decides name (codes "SAY")).0 tested in
-    subst (λ (xs : List ℕ). Fits (Simple xs ∷ operand) kind) (sym same) (said-fits operand kind is)
-say-fits name operand kind false tested is = cc
+record HasValue (found : Option Expr) (text : List ℕ) (kind : ClauseKind) : Type 0 where
+  pub value : Expr
+  pub first : found ≡ Some value
+  pub is : Assign (name.Simple text) value ≡ kind
+
+has-value : (found : Option Expr) (text : List ℕ) (kind : ClauseKind) → assign_with text found ≡ Some kind → HasValue found text kind
+has-value None text kind is = cc
+has-value (Some value) text kind is = record { value = value; first = refl; is = some-is _ _ is }
+
+record HasSaid (found : Option Expr) (kind : ClauseKind) : Type 0 where
+  pub said : Expr
+  pub first : found ≡ Some said
+  pub is : Say (Some said) ≡ kind
+
+has-said : (found : Option Expr) (kind : ClauseKind) → say_with found ≡ Some kind → HasSaid found kind
+has-said None kind is = cc
+has-said (Some said) kind is = record { said = said; first = refl; is = some-is _ _ is }
+
+-- SAY with what stands behind it
+says-fits : (text : List ℕ) (behind : List TokenKind) (kind : ClauseKind) → bytes_eq text (codes "SAY") ≡ true
+    → say_with (expr_of behind) ≡ Some kind → Fits (token.Simple text ∷ behind) kind
+says-fits text behind kind tested is =
+    let same : text ≡ codes "SAY" = (bytes_eq-Decides text (codes "SAY")).0 tested in
+    let parts : HasSaid (expr_of behind) kind = has-said (expr_of behind) kind is in
+    subst (λ (xs : List ℕ). Fits (token.Simple xs ∷ behind) kind) (sym same)
+    (subst (λ (k : ClauseKind). Fits (token.Simple (codes "SAY") ∷ behind) k) parts.is (behind, refl, is-expr behind parts.said parts.first))
+
+assigns-fits : (text : List ℕ) (sign : TokenKind) (behind : List TokenKind) (kind : ClauseKind) → is_equal sign ≡ true
+    → assign_with text (expr_of behind) ≡ Some kind → Fits (token.Simple text ∷ (sign ∷ behind)) kind
+assigns-fits text sign behind kind tested is =
+    let parts : HasValue (expr_of behind) text kind = has-value (expr_of behind) text kind is in
+    subst (λ (t : TokenKind). Fits (token.Simple text ∷ (t ∷ behind)) kind) (sym (equal-is sign tested))
+    (subst (λ (k : ClauseKind). Fits (token.Simple text ∷ (token.Operator Equal ∷ behind)) k) parts.is (behind, refl, is-expr behind parts.value parts.first))
+
+by-sign : (text : List ℕ) (sign : TokenKind) (behind : List TokenKind) (kind : ClauseKind) (equal : Bool) → is_equal sign ≡ equal
+    → cond equal (assign_with text (expr_of behind)) (cond (bytes_eq text (codes "SAY")) (say_with (expr_of (sign ∷ behind))) None) ≡ Some kind
+    → Fits (token.Simple text ∷ (sign ∷ behind)) kind
+by-sign text sign behind kind true tested is = assigns-fits text sign behind kind tested is
+by-sign text sign behind kind false tested is =
+    let says : (bytes_eq text (codes "SAY") ≡ true) × (say_with (expr_of (sign ∷ behind)) ≡ Some kind) =
+    cond-some (bytes_eq text (codes "SAY")) (say_with (expr_of (sign ∷ behind))) kind is in
+    says-fits text (sign ∷ behind) kind says.0 says.1
+
+named-fits : (text : List ℕ) (behind : List TokenKind) (kind : ClauseKind) → named_clause text behind ≡ Some kind → Fits (token.Simple text ∷ behind) kind
+named-fits text [] kind is =
+    let says : (bytes_eq text (codes "SAY") ≡ true) × (Some (Say None) ≡ Some kind) = cond-some (bytes_eq text (codes "SAY")) (Some (Say None)) kind is in
+    let same : text ≡ codes "SAY" = (bytes_eq-Decides text (codes "SAY")).0 says.0 in
+    subst (λ (xs : List ℕ). Fits (token.Simple xs ∷ []) kind) (sym same)
+    (subst (λ (k : ClauseKind). Fits (token.Simple (codes "SAY") ∷ []) k) (some-is (Say None) kind says.1) refl)
+named-fits text (sign ∷ behind) kind is = by-sign text sign behind kind (is_equal sign) refl is
 
 -- What the reader takes is a clause of the tokens.
 pub is-fits : (kinds : List TokenKind) (kind : ClauseKind) → clause_of kinds ≡ Some kind → Fits kinds kind
 is-fits [] kind is = cc
-is-fits (Simple name ∷ operand) kind is = say-fits name operand kind (bytes_eq name (codes "SAY")) refl is
-is-fits (_ ∷ operand) kind is = cc
+is-fits (token.Simple text ∷ behind) kind is = named-fits text behind kind is
+is-fits (_ ∷ behind) kind is = cc
 
 none-not-some : {A : Type 0} (found : Option A) (x : A) → found ≡ None → found ≡ Some x → ⊥
 none-not-some None x none some = cc
@@ -241,3 +383,15 @@ HasClauses-passed lines clauses same n line left so_far blank is =
 pub HasClauses-end : (lines : List (List ℕ)) (clauses : List Clause) (n i : ℕ) → HasClauses lines clauses n (drop i lines) → length lines ≤ i → AreClauses 1 lines clauses
 HasClauses-end lines clauses n i so_far past =
     AreClauses-read lines clauses n (subst (λ (left : List (List ℕ)). HasClauses lines clauses n left) (drop_of_length-le lines past) so_far)
+
+-- the tokens of a line that were read, and what they are
+pub line-clause : (line : List ℕ) (tokens : List TokenKind) (kind : ClauseKind) → AreTokens line tokens → clause_of tokens ≡ Some kind → IsClause line kind
+line-clause line tokens kind are is = record { tokens = tokens; spelled = are.spelled; fits = is-fits tokens kind is }
+
+-- a line with a token isn't blank
+not-blank : (line : List ℕ) (tokens : List TokenKind) → AreTokens line tokens → (tokens ≡ [] → ⊥) → Spells [] line → ⊥
+not-blank line tokens are some blank = some (sym (are.only [] blank))
+
+pub neither-blank-nor-clause : (line : List ℕ) (tokens : List TokenKind) → AreTokens line tokens → (tokens ≡ [] → ⊥) → clause_of tokens ≡ None
+    → (Spells [] line → ⊥) × ((kind : ClauseKind) → IsClause line kind → ⊥)
+neither-blank-nor-clause line tokens are some none = (not-blank line tokens are some, no-clause line tokens are none)

@@ -1,9 +1,11 @@
 -- The reader's tokens of a line are what `Spells` means.
 use Rattle.std.proofs.Common.{◌≡◌, ◌<◌, ◌+◌, inl, inr, suc, length, arith, length-append, ℕ, true, false, List, [], ◌∷◌, ◌++◌, Option, None, Some, refl, sym, ◌∙◌, ap, subst, append_assoc}
 use Rattle.std.proofs.lemmas.List.{append-nil}
+use Rattle.rx_tree.specs.declared.token.Oper.{Oper}
+use Rattle.rx_tree.specs.declared.token.Oper.TheVariants.{Concat, Equal}
 use Rattle.rx_tree.specs.declared.token.TokenKind.{TokenKind}
-use Rattle.rx_tree.specs.declared.token.TokenKind.TheVariants.{Simple, Quoted}
-use Rattle.rx_lines.specs.Tokens.{Spells, IsToken, doubled}
+use Rattle.rx_tree.specs.declared.token.TokenKind.TheVariants.{Simple, Quoted, Operator}
+use Rattle.rx_lines.specs.Tokens.{Spells, IsSign, IsToken, doubled}
 use Rattle.rx_lines.specs.Reader.{without_blanks, first_token, AreTokens, HasNoTokens}
 use Rattle.rx_lines.proofs.Blanks.{HasBlanks, has-blanks, without_blanks-gap, without_blanks-stop, without_blanks-all, without_blanks-twice, all-blank}
 use Rattle.rx_lines.proofs.TokenLemmas.{BeginsWith, first_token-is, first_token-written, token-front}
@@ -134,6 +136,11 @@ HasNoTokens-read line rest tokens so_far some first = λ kinds spelled.
     let left : (others : List TokenKind) × (kinds ≡ tokens ++ others) × Spells others rest = so_far.only kinds spelled in
     stuck rest left.0 so_far.trimmed some first left.2
 
+sign-some : (oper : Oper) (rest written : List ℕ) → IsSign oper written rest → 0 < length written
+sign-some Concat rest written token = let two : length written ≡ 2 = ap length token in omega arith
+sign-some Equal rest written token = let one : length written ≡ 1 = ap length token.0 in omega arith
+sign-some _ rest written token = absurd token
+
 -- a token takes a byte at least
 written-some : (kind : TokenKind) (rest written : List ℕ) → IsToken kind written rest → 0 < length written
 written-some (Simple name) rest [] token = let none : false ≡ true = token.is_name in cc
@@ -142,6 +149,7 @@ written-some (Quoted text) rest written (inl token) =
     let same : length written ≡ suc (length (doubled 39 text ++ 39 ∷ [])) = ap length token.is in omega arith
 written-some (Quoted text) rest written (inr token) =
     let same : length written ≡ suc (length (doubled 34 text ++ 34 ∷ [])) = ap length token.is in omega arith
+written-some (Operator oper) rest written token = sign-some oper rest written token
 written-some _ rest written token = absurd token
 
 pub first_token-shorter : (kind : TokenKind) (rest bytes : List ℕ) → first_token bytes ≡ Some (kind, rest) → length rest < length bytes

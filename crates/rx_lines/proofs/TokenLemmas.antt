@@ -8,10 +8,12 @@ use Rattle.std.specs.Cmp.{first_so, second_so}
 use Rattle.std.proofs.lemmas.List.Sums.{prefix_len-le-length}
 use Rattle.std.specs.List.{list_all, prefix_len}
 use Rattle.std.specs.Str.{str_to_ascii_uppercase}
+use Rattle.rx_tree.specs.declared.token.Oper.{Oper}
+use Rattle.rx_tree.specs.declared.token.Oper.TheVariants.{Concat, Equal}
 use Rattle.rx_tree.specs.declared.token.TokenKind.{TokenKind}
-use Rattle.rx_tree.specs.declared.token.TokenKind.TheVariants.{Simple, Quoted}
-use Rattle.rx_lines.specs.Tokens.{is_blank, is_digit, is_name_byte, is_symbol_byte, is_name, begins, doubled, IsQuoted, IsNamed, IsToken}
-use Rattle.rx_lines.specs.Reader.{string_from, string_at_quote, quoted_token, named_token, name_at, first_token}
+use Rattle.rx_tree.specs.declared.token.TokenKind.TheVariants.{Simple, Quoted, Operator}
+use Rattle.rx_lines.specs.Tokens.{is_blank, is_digit, is_name_byte, is_symbol_byte, is_name, begins, doubled, IsQuoted, IsNamed, IsSign, IsToken}
+use Rattle.rx_lines.specs.Reader.{string_from, string_at_quote, quoted_token, named_token, name_at, join_behind, equal_behind, sign_or_name, first_token}
 use Rattle.rx_lines.proofs.Blanks.{both_so}
 
 -- the bytes begin with this token, in front of the rest
@@ -197,6 +199,12 @@ name_at-is name rest written token =
 no-quote : (b : ℕ) → is_name_byte b ≡ true → ((b == 39) || (b == 34)) ≡ false
 no-quote b is = grind (arith, nat_tests)
 
+no-bar : (b : ℕ) → is_name_byte b ≡ true → (b == 124) ≡ false
+no-bar b is = grind (arith, nat_tests)
+
+no-equal : (b : ℕ) → is_name_byte b ≡ true → (b == 61) ≡ false
+no-equal b is = grind (arith, nat_tests)
+
 pub no-blank : (b : ℕ) → is_name_byte b ≡ true → is_blank b ≡ false
 no-blank b is = grind (arith, nat_tests)
 
@@ -204,8 +212,11 @@ first_token-name : (name rest written : List ℕ) → IsNamed name written rest 
 first_token-name name rest [] token = let none : false ≡ true = token.is_name in cc
 first_token-name name rest (b ∷ written) token =
     let all : list_all is_name_byte (b ∷ written) ≡ true = (name-bytes (b ∷ written) token.is_name).0 in
-    ap (λ t. cond t (quoted_token (string_from b [] (written ++ rest))) (name_at (b ∷ (written ++ rest))))
-    (no-quote b (first_so (is_name_byte b) _ all))
+    let named : is_name_byte b ≡ true = first_so (is_name_byte b) _ all in
+    let bytes : List ℕ = written ++ rest in
+    ap (λ t. cond t (quoted_token (string_from b [] bytes)) (sign_or_name b bytes)) (no-quote b named)
+    ∙ ap (λ t. cond t (join_behind bytes) (cond (b == 61) (equal_behind bytes) (name_at (b ∷ bytes)))) (no-bar b named)
+    ∙ ap (λ t. cond t (equal_behind bytes) (name_at (b ∷ bytes))) (no-equal b named)
     ∙ name_at-is name rest (b ∷ written) token
 
 string-of : (quote : ℕ) (text rest : List ℕ) → begins (λ b. b == quote) rest ≡ false
@@ -214,12 +225,24 @@ string-of quote text rest ends =
     ap (λ xs. quoted_token (string_from quote [] xs)) (append_assoc (doubled quote text) (quote ∷ []) rest)
     ∙ ap quoted_token (string_from-doubled quote [] text rest ends)
 
+first_token-sign : (oper : Oper) (rest written : List ℕ) → IsSign oper written rest → first_token (written ++ rest) ≡ Some (Operator oper, rest)
+first_token-sign Concat rest written token = ap (λ xs. first_token (xs ++ rest)) token
+first_token-sign Equal rest written token =
+    ap (λ xs. first_token (xs ++ rest)) token.0 ∙ ap (λ t. cond t None (Some (Operator Equal, rest))) token.1
+first_token-sign _ rest written token = absurd token
+
 -- A token that is written at the front of the bytes is the one that the reader takes.
 pub first_token-is : (kind : TokenKind) (rest written : List ℕ) → IsToken kind written rest → first_token (written ++ rest) ≡ Some (kind, rest)
 first_token-is (Simple name) rest written token = first_token-name name rest written token
 first_token-is (Quoted text) rest written (inl token) = ap (λ xs. first_token (xs ++ rest)) token.is ∙ string-of 39 text rest token.ends
 first_token-is (Quoted text) rest written (inr token) = ap (λ xs. first_token (xs ++ rest)) token.is ∙ string-of 34 text rest token.ends
+first_token-is (Operator oper) rest written token = first_token-sign oper rest written token
 first_token-is _ rest written token = absurd token
+
+sign-front : (oper : Oper) (rest written : List ℕ) → IsSign oper written rest → begins is_blank (written ++ rest) ≡ false
+sign-front Concat rest written token = ap (λ xs. begins is_blank (xs ++ rest)) token
+sign-front Equal rest written token = ap (λ xs. begins is_blank (xs ++ rest)) token.0
+sign-front _ rest written token = absurd token
 
 -- A token begins with no blank.
 pub token-front : (kind : TokenKind) (rest written : List ℕ) → IsToken kind written rest → begins is_blank (written ++ rest) ≡ false
@@ -228,6 +251,7 @@ token-front (Simple name) rest (b ∷ written) token =
     no-blank b (first_so (is_name_byte b) _ (name-bytes (b ∷ written) token.is_name).0)
 token-front (Quoted text) rest written (inl token) = ap (λ xs. begins is_blank (xs ++ rest)) token.is
 token-front (Quoted text) rest written (inr token) = ap (λ xs. begins is_blank (xs ++ rest)) token.is
+token-front (Operator oper) rest written token = sign-front oper rest written token
 token-front _ rest written token = absurd token
 
 -- What the reader takes is written so.
@@ -284,8 +308,43 @@ written_name kind rest bytes is =
     subst (λ (t : TokenKind × List ℕ). BeginsWith t.0 t.1 bytes) found.1
     (record { written = name; is = sym (take-append-drop n bytes); token = token })
 
+-- a sign that is written so is at the front of the bytes
+written_sign : (oper : Oper) (kind : TokenKind) (written rest behind : List ℕ) → IsSign oper written rest → ◌≡◌ {A = TokenKind × List ℕ} (Operator oper, rest) (kind, behind)
+    → BeginsWith kind behind (written ++ rest)
+written_sign oper kind written rest behind sign is =
+    subst (λ (t : TokenKind × List ℕ). BeginsWith t.0 t.1 (written ++ rest)) is (record { written = written; is = refl; token = sign })
+
+join_written : (kind : TokenKind) (rest bytes : List ℕ) → join_behind bytes ≡ Some (kind, rest) → BeginsWith kind rest (124 ∷ bytes)
+join_written kind rest [] is = cc
+join_written kind rest (b ∷ bytes) is =
+    let found : ((b == 124) ≡ true) × ((Operator Concat, bytes) ≡ (kind, rest)) = cond-some (b == 124) (Operator Concat, bytes) (kind, rest) is in
+    subst (λ (x : ℕ). BeginsWith kind rest (124 ∷ (x ∷ bytes))) (sym (eqb-true b 124 found.0))
+    (written_sign Concat kind (124 ∷ (124 ∷ [])) bytes rest refl found.1)
+
+cond-none : {A : Type 0} (t : Bool) (x y : A) → cond t None (Some x) ≡ Some y → (t ≡ false) × (x ≡ y)
+cond-none true x y is = cc
+cond-none false x y is = (refl, cc)
+
+equal_written : (kind : TokenKind) (rest bytes : List ℕ) → equal_behind bytes ≡ Some (kind, rest) → BeginsWith kind rest (61 ∷ bytes)
+equal_written kind rest bytes is =
+    let found : (begins (λ b. b == 61) bytes ≡ false) × ((Operator Equal, bytes) ≡ (kind, rest)) =
+    cond-none (begins (λ b. b == 61) bytes) (Operator Equal, bytes) (kind, rest) is in
+    written_sign Equal kind (61 ∷ []) bytes rest (refl, found.0) found.1
+
+written_equal : (b : ℕ) (kind : TokenKind) (rest bytes : List ℕ) (equal : Bool) → (b == 61) ≡ equal
+    → cond equal (equal_behind bytes) (name_at (b ∷ bytes)) ≡ Some (kind, rest) → BeginsWith kind rest (b ∷ bytes)
+written_equal b kind rest bytes true tested is =
+    subst (λ (x : ℕ). BeginsWith kind rest (x ∷ bytes)) (sym (eqb-true b 61 tested)) (equal_written kind rest bytes is)
+written_equal b kind rest bytes false tested is = written_name kind rest (b ∷ bytes) is
+
+written_bar : (b : ℕ) (kind : TokenKind) (rest bytes : List ℕ) (bar : Bool) → (b == 124) ≡ bar
+    → cond bar (join_behind bytes) (cond (b == 61) (equal_behind bytes) (name_at (b ∷ bytes))) ≡ Some (kind, rest) → BeginsWith kind rest (b ∷ bytes)
+written_bar b kind rest bytes true tested is =
+    subst (λ (x : ℕ). BeginsWith kind rest (x ∷ bytes)) (sym (eqb-true b 124 tested)) (join_written kind rest bytes is)
+written_bar b kind rest bytes false tested is = written_equal b kind rest bytes (b == 61) refl is
+
 written_at : (b : ℕ) (kind : TokenKind) (rest bytes : List ℕ) (quotes : Bool) → ((b == 39) || (b == 34)) ≡ quotes
-    → cond quotes (quoted_token (string_from b [] bytes)) (name_at (b ∷ bytes)) ≡ Some (kind, rest) → BeginsWith kind rest (b ∷ bytes)
+    → cond quotes (quoted_token (string_from b [] bytes)) (sign_or_name b bytes) ≡ Some (kind, rest) → BeginsWith kind rest (b ∷ bytes)
 written_at b kind rest bytes true tested is =
     elim (either-is (b == 39) (b == 34) tested) [
       | inl single ↦ let same : b ≡ 39 = eqb-true b 39 single in
@@ -295,7 +354,7 @@ written_at b kind rest bytes true tested is =
           subst (λ (x : ℕ). BeginsWith kind rest (x ∷ bytes)) (sym same)
           (written_quoted 34 kind rest bytes (λ text token. inr token) (ap (λ x. quoted_token (string_from x [] bytes)) (sym same) ∙ is))
     ]
-written_at b kind rest bytes false tested is = written_name kind rest (b ∷ bytes) is
+written_at b kind rest bytes false tested is = written_bar b kind rest bytes (b == 124) refl is
 
 -- The token that the reader takes is written at the front of the bytes.
 pub first_token-written : (kind : TokenKind) (rest bytes : List ℕ) → first_token bytes ≡ Some (kind, rest) → BeginsWith kind rest bytes

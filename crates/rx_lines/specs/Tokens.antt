@@ -2,8 +2,10 @@
 use Rattle.std.specs.Prelude.{◌≡◌, ℕ, Bool, false, ◌==◌, ◌||◌, ◌&&◌, not, nat_le, List, [], ◌∷◌, ◌++◌, IsTrue, ◌⊎◌, if◌then◌else◌}
 use Rattle.std.specs.List.{list_all}
 use Rattle.std.specs.Str.{str_to_ascii_uppercase}
+use Rattle.rx_tree.specs.declared.token.Oper.{Oper}
+use Rattle.rx_tree.specs.declared.token.Oper.TheVariants.{Concat, Equal}
 use Rattle.rx_tree.specs.declared.token.TokenKind.{TokenKind}
-use Rattle.rx_tree.specs.declared.token.TokenKind.TheVariants.{Simple, Quoted}
+use Rattle.rx_tree.specs.declared.token.TokenKind.TheVariants.{Simple, Quoted, Operator}
 
 -- A blank is a space or a tab.
 abbrev pub is_blank : ℕ → Bool
@@ -52,10 +54,18 @@ pub record IsNamed (name written rest : List ℕ) : Type 0 where
   pub is : name ≡ str_to_ascii_uppercase written
   pub ends : begins is_symbol_byte rest ≡ false
 
--- A token is written so, in front of the rest: a string in single or double quotes. The line form has no other tokens.
+-- An operator: `||`, or `=` alone. The line form has no other.
+abbrev pub IsSign : Oper → List ℕ → List ℕ → Type 0
+IsSign Concat written rest = written ≡ 124 ∷ (124 ∷ [])
+IsSign Equal written rest = (written ≡ 61 ∷ []) × (begins (λ b. b == 61) rest ≡ false)
+IsSign _ written rest = ⊥
+
+-- A token is written so, in front of the rest: a name, a string in single or in double quotes, or an operator. The line
+-- form has no other tokens.
 abbrev pub IsToken : TokenKind → List ℕ → List ℕ → Type 0
 IsToken (Simple name) written rest = IsNamed name written rest
 IsToken (Quoted text) written rest = IsQuoted 39 text written rest ⊎ IsQuoted 34 text written rest
+IsToken (Operator oper) written rest = IsSign oper written rest
 IsToken _ written rest = ⊥
 
 -- A line is blanks, a token, and a rest of which this holds.

@@ -1,30 +1,43 @@
 // The clause of a line's tokens.
 ghost use Rattle.std.specs.Prelude.{◌≡◌, IfOk};
-ghost use Rattle.rx_lines.specs.Reader.{said_by, clause_of};
+ghost use Rattle.rx_lines.specs.Reader.{named_clause, clause_of};
 
-use rx_tree::{ClauseKind, Expr, OutOfMemory, TokenKind, Value};
+use crate::expr::read_expr;
+use rx_tree::{ClauseKind, Name, Oper, OutOfMemory, Text, TokenKind};
+use std::alloc::Global;
 
-// What SAY says, by the tokens behind it.
-fn read_operand(tokens: &[TokenKind]) -> Result<Option<ClauseKind>, OutOfMemory>
-    ensures { IfOk result (λ found. found ≡ said_by tokens.now) }
+// The clause that begins with a name, by the tokens behind it.
+fn read_named(
+    alloc: Global,
+    name: &Text,
+    behind: &[TokenKind],
+) -> Result<Option<ClauseKind>, OutOfMemory>
+    ensures { IfOk result (λ found. found ≡ named_clause name.now behind.now) }
 {
-    match tokens {
-        [] => Ok(Some(ClauseKind::Say(None))),
-        [TokenKind::Quoted(text)] => {
-            let constant = Expr::Const(Value::Str(text.share()?));
-            Ok(Some(ClauseKind::Say(Some(constant))))
-        }
-        _ => Ok(None),
+    if let [TokenKind::Operator(Oper::Equal), tokens @ ..] = behind {
+        let Some(value) = read_expr(alloc, tokens)? else {
+            return Ok(None);
+        };
+        return Ok(Some(ClauseKind::Assign(Name::Simple(name.share()?), value)));
+    }
+    if name.bytes() != b"SAY".as_slice() {
+        return Ok(None);
+    }
+    if behind.is_empty() {
+        return Ok(Some(ClauseKind::Say(None)));
+    }
+    match read_expr(alloc, behind)? {
+        Some(said) => Ok(Some(ClauseKind::Say(Some(said)))),
+        None => Ok(None),
     }
 }
 
 /// The clause that is written with these tokens, or none.
-pub fn read_clause(tokens: &[TokenKind]) -> Result<Option<ClauseKind>, OutOfMemory>
+pub fn read_clause(alloc: Global, tokens: &[TokenKind]) -> Result<Option<ClauseKind>, OutOfMemory>
     ensures clause { IfOk result (λ found. found ≡ clause_of tokens.now) }
 {
     match tokens {
-        [TokenKind::Simple(name), operand @ ..] if name.bytes() == b"SAY".as_slice() =>
-            read_operand(operand),
+        [TokenKind::Simple(name), behind @ ..] => read_named(alloc, name, behind),
         _ => Ok(None),
     }
 }

@@ -5,6 +5,7 @@
 #![tactic(auto)]
 
 mod clause;
+mod expr;
 mod line;
 mod program;
 mod token;

@@ -74,7 +74,7 @@ fn read_line(alloc: Global, line: &[u8]) -> Result<Line, OutOfMemory>
     if tokens.is_empty() {
         return Ok(Line::Blank);
     }
-    match read_clause(tokens.as_slice())? {
+    match read_clause(alloc, tokens.as_slice())? {
         Some(kind) => Ok(Line::Clause(kind)),
         None => Ok(Line::Refused),
     }

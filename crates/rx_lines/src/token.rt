@@ -3,9 +3,9 @@ ghost use Rattle.std.specs.Prelude.{◌≡◌, ◌≤◌, ◌<◌, ◌+◌, ℕ,
 ghost use Rattle.std.specs.List.{prefix_len};
 ghost use Rattle.std.specs.Str.{str_to_ascii_uppercase};
 ghost use Rattle.rx_lines.specs.Tokens.{is_digit, is_name_byte, is_symbol_byte, begins};
-ghost use Rattle.rx_lines.specs.Reader.{without_blanks, string_from, quoted_token, name_at, first_token, TokenRead};
+ghost use Rattle.rx_lines.specs.Reader.{without_blanks, string_from, quoted_token, name_at, join_behind, equal_behind, first_token, TokenRead};
 
-use rx_tree::{OutOfMemory, Text, TokenKind};
+use rx_tree::{Oper, OutOfMemory, Text, TokenKind};
 use std::alloc::Global;
 
 /// The bytes from the first that is no blank.
@@ -111,15 +111,38 @@ fn read_string(
     Ok(None)
 }
 
+// `||` behind its first byte.
+fn read_join(behind: &[u8]) -> Option<(TokenKind, &[u8])>
+    ensures { TokenRead result (join_behind behind.now) }
+{
+    match behind {
+        [b'|', rest @ ..] => Some((TokenKind::Operator(Oper::Concat), rest)),
+        _ => None,
+    }
+}
+
+// `=`, where no further one follows.
+fn read_equal(behind: &[u8]) -> Option<(TokenKind, &[u8])>
+    ensures { TokenRead result (equal_behind behind.now) }
+{
+    match behind {
+        [b'=', ..] => None,
+        _ => Some((TokenKind::Operator(Oper::Equal), behind)),
+    }
+}
+
 /// The token at the front of the bytes, and the bytes behind it; none where no token begins so.
 pub fn read_token(alloc: Global, bytes: &[u8]) -> Result<Option<(TokenKind, &[u8])>, OutOfMemory>
     requires { length bytes.now ≤ Text.LONGEST }
     ensures token { IfOk result (λ read. TokenRead read (first_token bytes.now)) }
 {
-    match bytes {
-        [quote, behind @ ..] if *quote == b'\'' || *quote == b'"' => read_string(
-            alloc, *quote, behind,
-        ),
+    let [first, behind @ ..] = bytes else {
+        return Ok(None);
+    };
+    match *first {
+        b'\'' | b'"' => read_string(alloc, *first, behind),
+        b'|' => Ok(read_join(behind)),
+        b'=' => Ok(read_equal(behind)),
         _ => read_name(alloc, bytes),
     }
 }

@@ -1,12 +1,17 @@
 -- A step that reads no input is the same whatever lines are behind.
 use Rattle.std.proofs.Common.{◌≡◌, ℕ, Bool, false, ◌&&◌, List, [], ◌∷◌, Option, None, Some, refl, sym, ◌∙◌, ap, subst}
 use Rattle.std.specs.Prelude.{IsTrue}
+use Rattle.rx_tree.specs.declared.value.Value.{Value}
+use Rattle.rx_tree.specs.declared.clause.Clause.{Clause}
 use Rattle.rx_tree.specs.declared.clause.ClauseKind.{ClauseKind}
-use Rattle.rx_tree.specs.declared.clause.ClauseKind.TheVariants.{Say}
+use Rattle.rx_tree.specs.declared.clause.ClauseKind.TheVariants.{Say, Assign}
 use Rattle.rx_tree.specs.Frame.{Frame, Todo, Whole, Partly}
 use Rattle.rx_tree.specs.World.{World, Activity}
 use Rattle.rx_machine.specs.Enabled.{activity_at, enabled}
-use Rattle.rx_machine.specs.Step.{Stepped, Done, WantsLine, step, step_frame, step_frames, step_activity, stretch, finish, with_top, without_top, counted}
+use Rattle.rx_machine.specs.Evaluation.{AllEvaluated}
+use Rattle.rx_machine.specs.Evaluation as evaluation
+use Rattle.rx_machine.specs.Raising.{raise}
+use Rattle.rx_machine.specs.Step.{Stepped, Done, WantsLine, step, step_frame, step_frames, step_activity, stretch, settle, finish, without_top, counted}
 use Rattle.rx_machine.specs.End.{end}
 use Rattle.rx_machine.specs.Runs.{run, after, world_after, is_done, is_going, may_pick, legal, IsSerialAfter, SerialRun}
 use Rattle.rx_machine.specs.Input.{with_more}
@@ -16,25 +21,35 @@ abbrev pub stepped_with : List (List ℕ) → Bool → Stepped → Stepped
 stepped_with more ended (Done w) = Done (with_more more ended w)
 stepped_with more ended WantsLine = WantsLine
 
-finish-with : (more : List (List ℕ)) (ended : Bool) (w : World) (kind : ClauseKind)
-    → finish (with_more more ended w) kind ≡ with_more more ended (finish w kind)
-finish-with more ended w (Say given) = refl
-
 without_top-with : (more : List (List ℕ)) (ended : Bool) (w : World) (a : ℕ) (activity : Activity) (frames : List Frame)
     → without_top (with_more more ended w) a activity frames ≡ with_more more ended (without_top w a activity frames)
 without_top-with more ended w a activity [] = refl
 without_top-with more ended w a activity (frame ∷ frames) = refl
 
-stretch-with : (more : List (List ℕ)) (ended : Bool) (w : World) (a : ℕ) (activity : Activity) (frame : Frame) (frames : List Frame) (item : Todo) (todo : List Todo)
-    → stretch (with_more more ended w) a activity frame frames item todo ≡ with_more more ended (stretch w a activity frame frames item todo)
-stretch-with more ended w a activity frame frames (Whole clause) todo =
-    finish-with more ended (with_top w a activity (record frame { todo = todo }) frames) clause.kind
-stretch-with more ended w a activity frame frames (Partly clause trees valueless) todo = refl
+raise-with : (more : List (List ℕ)) (ended : Bool) (w : World) (a : ℕ) (activity : Activity) (frames : List Frame) (number line : ℕ)
+    → raise (with_more more ended w) a activity frames number line ≡ with_more more ended (raise w a activity frames number line)
+raise-with more ended w a activity [] number line = refl
+raise-with more ended w a activity (frame ∷ frames) number line = raise-with more ended w a activity frames number line
+
+finish-with : (more : List (List ℕ)) (ended : Bool) (w : World) (a : ℕ) (activity : Activity) (frame : Frame) (frames : List Frame) (kind : ClauseKind) (values : List Value)
+    → finish (with_more more ended w) a activity frame frames kind values ≡ with_more more ended (finish w a activity frame frames kind values)
+finish-with more ended w a activity frame frames (Say given) values = refl
+finish-with more ended w a activity frame frames (Assign name expr) values = refl
+
+settle-with : (more : List (List ℕ)) (ended : Bool) (w : World) (a : ℕ) (activity : Activity) (frame : Frame) (frames : List Frame) (clause : Clause) (evaluated : AllEvaluated)
+    → settle (with_more more ended w) a activity frame frames clause evaluated ≡ with_more more ended (settle w a activity frame frames clause evaluated)
+settle-with more ended w a activity frame frames clause (evaluation.Done values) = finish-with more ended w a activity frame frames clause.kind values
+settle-with more ended w a activity frame frames clause (evaluation.Raise number) = raise-with more ended w a activity (frame ∷ frames) number clause.line
+
+stretch-with : (more : List (List ℕ)) (ended : Bool) (w : World) (a : ℕ) (activity : Activity) (frame : Frame) (frames : List Frame) (item : Todo)
+    → stretch (with_more more ended w) a activity frame frames item ≡ with_more more ended (stretch w a activity frame frames item)
+stretch-with more ended w a activity frame frames (Whole clause) = settle-with more ended w a activity frame frames clause _
+stretch-with more ended w a activity frame frames (Partly clause trees valueless) = settle-with more ended w a activity frame frames clause _
 
 step_frame-with : (more : List (List ℕ)) (ended : Bool) (w : World) (a : ℕ) (activity : Activity) (frame : Frame) (frames : List Frame) (todo : List Todo)
     → step_frame (with_more more ended w) a activity frame frames todo ≡ stepped_with more ended (step_frame w a activity frame frames todo)
 step_frame-with more ended w a activity frame frames [] = ap Done (without_top-with more ended w a activity frames)
-step_frame-with more ended w a activity frame frames (item ∷ todo) = ap Done (stretch-with more ended w a activity frame frames item todo)
+step_frame-with more ended w a activity frame frames (item ∷ todo) = ap Done (stretch-with more ended w a activity (record frame { todo = todo }) frames item)
 
 step_frames-with : (more : List (List ℕ)) (ended : Bool) (w : World) (a : ℕ) (activity : Activity) (frames : List Frame)
     → step_frames (with_more more ended w) a activity frames ≡ stepped_with more ended (step_frames w a activity frames)

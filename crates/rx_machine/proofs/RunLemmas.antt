@@ -1,12 +1,13 @@
 -- Runs that go on by picks at their end.
-use Rattle.std.proofs.Common.{◌≡◌, ℕ, ◌+◌, Bool, true, false, ◌&&◌, List, [], ◌∷◌, ◌++◌, length, Some, refl, sym, ◌∙◌, ap, subst, arith}
+use Rattle.std.proofs.Common.{Option, None, ◌≡◌, ℕ, ◌+◌, ◌-◌, ◌<◌, nat_le, cond, Bool, true, false, ◌&&◌, List, [], ◌∷◌, ◌++◌, length, Some, refl, sym, ◌∙◌, ap, subst, arith}
 use Rattle.std.specs.Prelude.{IsTrue}
 use Rattle.std.specs.Cmp.{first_so, second_so}
+use Rattle.std.proofs.lemmas.Bool.{leb-false}
 use Rattle.rx_tree.specs.declared.note.Note.{Note}
 use Rattle.rx_tree.specs.World.{World}
-use Rattle.rx_machine.specs.Enabled.{enabled, robin}
+use Rattle.rx_machine.specs.Enabled.{enabled, robin, least_enabled}
 use Rattle.rx_machine.specs.Step.{Done, step}
-use Rattle.rx_machine.specs.End.{End, Going, Finished, Stuck, Spent, end}
+use Rattle.rx_machine.specs.End.{End, Going, Finished, Stuck, Spent, end, end_among, any_live}
 use Rattle.rx_machine.specs.Runs.{run, after, world_after, is_done, is_going, may_pick, legal, IsSerialAfter, last_of, SerialRun}
 use Rattle.rx_machine.proofs.StepLemmas.{Grown, Grown-same, Grown-then, after-grown, after-steps, after-unread}
 
@@ -89,3 +90,25 @@ SerialRun-next from picks longer to next last a so_far is_last circle may steppe
 pub run-unread : (w : World) (picks : List ℕ) → (run w picks).rest ≡ w.rest
 run-unread w [] = refl
 run-unread w (a ∷ picks) = run-unread (after w a) picks ∙ after-unread w a
+
+below-or-spent : (w : World) (spent : Bool) → nat_le w.budget w.steps ≡ spent → cond spent Spent Going ≡ Going → w.steps < w.budget
+below-or-spent w true tested is = cc
+below-or-spent w false tested is = leb-false w.budget w.steps tested
+
+end_among-going : (w : World) (live : Bool) (least : Option ℕ) → end_among w live least ≡ Going → w.steps < w.budget
+end_among-going w false least is = cc
+end_among-going w true None is = cc
+end_among-going w true (Some a) is = below-or-spent w (nat_le w.budget w.steps) refl is
+
+pub going-below : (w : World) → end w ≡ Going → w.steps < w.budget
+going-below w is = end_among-going w (any_live w.activities) (least_enabled w) is
+
+-- a step that is taken leaves fewer steps
+pub step-spends : (w next : World) (a : ℕ) → IsTrue (may_pick w a) → step w a ≡ Done next → next.budget - next.steps < w.budget - w.steps
+step-spends w next a may stepped =
+    let parts : IsTrue (enabled w a) × (end w ≡ Going) × IsTrue (is_done (step w a)) = picks-are-enabled w a may in
+    let below : w.steps < w.budget = going-below w parts.1 in
+    let same : after w a ≡ next = ap (world_after w) stepped in
+    let steps : next.steps ≡ w.steps + 1 = sym (ap (λ (v : World). v.steps) same) ∙ after-steps w a parts.2 in
+    let budget : next.budget ≡ w.budget = sym (ap (λ (v : World). v.budget) same) ∙ (after-grown w a).keeps.budget in
+    omega arith

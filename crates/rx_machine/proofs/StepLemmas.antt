@@ -2,12 +2,18 @@
 use Rattle.std.proofs.Common.{◌≡◌, ℕ, ◌+◌, List, [], ◌∷◌, ◌++◌, Option, None, Some, refl, sym, ◌∙◌, ap, append_assoc, true}
 use Rattle.std.proofs.lemmas.List.{append-nil}
 use Rattle.rx_tree.specs.declared.note.Note.{Note}
+use Rattle.rx_tree.specs.declared.note.Note.TheVariants.{Error}
+use Rattle.rx_tree.specs.declared.value.Value.{Value}
+use Rattle.rx_tree.specs.declared.clause.Clause.{Clause}
 use Rattle.rx_tree.specs.declared.clause.ClauseKind.{ClauseKind}
-use Rattle.rx_tree.specs.declared.clause.ClauseKind.TheVariants.{Say}
+use Rattle.rx_tree.specs.declared.clause.ClauseKind.TheVariants.{Say, Assign}
 use Rattle.rx_tree.specs.Frame.{Frame, Todo, Whole, Partly}
 use Rattle.rx_tree.specs.World.{World, Activity}
 use Rattle.rx_machine.specs.Enabled.{activity_at}
-use Rattle.rx_machine.specs.Step.{Stepped, Done, WantsLine, step, step_frame, step_frames, step_activity, stretch, finish, line_said, with_top, without_top, counted}
+use Rattle.rx_machine.specs.Evaluation.{AllEvaluated}
+use Rattle.rx_machine.specs.Evaluation as evaluation
+use Rattle.rx_machine.specs.Raising.{raise, over_by_error}
+use Rattle.rx_machine.specs.Step.{Stepped, Done, WantsLine, step, step_frame, step_frames, step_activity, stretch, settle, finish, assigned, line_said, with_top, without_top, counted}
 use Rattle.rx_machine.specs.Runs.{after, world_after, is_done}
 use Rattle.rx_machine.specs.Laws.{KeepsProgram}
 
@@ -71,11 +77,30 @@ without_top-row w a activity (frame ∷ frames) = IsRow-quiet w _ (record { prog
 with_top-row : (w : World) (a : ℕ) (activity : Activity) (frame : Frame) (frames : List Frame) → IsRow w (with_top w a activity frame frames)
 with_top-row w a activity frame frames = IsRow-quiet w _ (record { program = refl; arg = refl; budget = refl }) refl refl refl refl
 
-finish-row : (w : World) (kind : ClauseKind) → IsRow w (finish w kind)
-finish-row w (Say given) = record {
+-- the report tells of an error
+over_by_error-row : (w : World) (a : ℕ) (activity : Activity) (number line : ℕ) → IsRow w (over_by_error w a activity number line)
+over_by_error-row w a activity number line = record {
   grown = record {
     keeps = record { program = refl; arg = refl; budget = refl };
-    said = line_said given;
+    said = [];
+    output = sym (append-nil w.output);
+    noted = Error number line a ∷ [];
+    notes = refl;
+  };
+  steps = refl;
+  unread = refl;
+}
+
+raise-row : (w : World) (a : ℕ) (activity : Activity) (frames : List Frame) (number line : ℕ) → IsRow w (raise w a activity frames number line)
+raise-row w a activity [] number line = over_by_error-row w a activity number line
+raise-row w a activity (frame ∷ frames) number line = raise-row w a activity frames number line
+
+finish-row : (w : World) (a : ℕ) (activity : Activity) (frame : Frame) (frames : List Frame) (kind : ClauseKind) (values : List Value)
+    → IsRow w (finish w a activity frame frames kind values)
+finish-row w a activity frame frames (Say given) values = record {
+  grown = record {
+    keeps = record { program = refl; arg = refl; budget = refl };
+    said = line_said values;
     output = refl;
     noted = [];
     notes = sym (append-nil w.notes);
@@ -83,26 +108,22 @@ finish-row w (Say given) = record {
   steps = refl;
   unread = refl;
 }
+finish-row w a activity frame frames (Assign name expr) values = with_top-row w a activity (assigned frame (Assign name expr) values) frames
 
-IsRow-then : (w next later : World) → IsRow w next → IsRow next later → IsRow w later
-IsRow-then w next later first second = record {
-  grown = Grown-then w next later first.grown second.grown;
-  steps = second.steps ∙ first.steps;
-  unread = second.unread ∙ first.unread;
-}
+settle-row : (w : World) (a : ℕ) (activity : Activity) (frame : Frame) (frames : List Frame) (clause : Clause) (evaluated : AllEvaluated)
+    → IsRow w (settle w a activity frame frames clause evaluated)
+settle-row w a activity frame frames clause (evaluation.Done values) = finish-row w a activity frame frames clause.kind values
+settle-row w a activity frame frames clause (evaluation.Raise number) = raise-row w a activity (frame ∷ frames) number clause.line
 
-stretch-row : (w : World) (a : ℕ) (activity : Activity) (frame : Frame) (frames : List Frame) (item : Todo) (todo : List Todo)
-    → IsRow w (stretch w a activity frame frames item todo)
-stretch-row w a activity frame frames (Whole clause) todo =
-    IsRow-then w (with_top w a activity (record frame { todo = todo }) frames) _
-    (with_top-row w a activity (record frame { todo = todo }) frames)
-    (finish-row (with_top w a activity (record frame { todo = todo }) frames) clause.kind)
-stretch-row w a activity frame frames (Partly clause trees valueless) todo = with_top-row w a activity (record frame { todo = todo }) frames
+stretch-row : (w : World) (a : ℕ) (activity : Activity) (frame : Frame) (frames : List Frame) (item : Todo)
+    → IsRow w (stretch w a activity frame frames item)
+stretch-row w a activity frame frames (Whole clause) = settle-row w a activity frame frames clause _
+stretch-row w a activity frame frames (Partly clause trees valueless) = settle-row w a activity frame frames clause _
 
 step_frame-row : (w : World) (a : ℕ) (activity : Activity) (frame : Frame) (frames : List Frame) (todo : List Todo)
     → IsRow w (world_after w (step_frame w a activity frame frames todo))
 step_frame-row w a activity frame frames [] = without_top-row w a activity frames
-step_frame-row w a activity frame frames (item ∷ todo) = stretch-row w a activity frame frames item todo
+step_frame-row w a activity frame frames (item ∷ todo) = stretch-row w a activity (record frame { todo = todo }) frames item
 
 step_frames-row : (w : World) (a : ℕ) (activity : Activity) (frames : List Frame) → IsRow w (world_after w (step_frames w a activity frames))
 step_frames-row w a activity [] = IsRow-quiet w w (same_program w) refl refl refl refl

@@ -1,6 +1,8 @@
 pub mod Opening
 pub mod Enabled
+pub mod Variables
 pub mod Evaluation
+pub mod Raising
 pub mod Step
 pub mod End
 pub mod Runs

@@ -9,13 +9,14 @@ use std::test::Fail;
 fn a_file_is_stored_fetched_and_replaced(rt: HostRuntime) -> Result<(), Fail> {
     let alloc = rt.alloc();
     let mut shelf = DirShelf::new(&rt);
-    assert!(rt; matches!(shelf.fetch(alloc, b"a.txt", 9), Fetched::Failed));
+    assert!(rt; matches!(shelf.fetch(alloc, b"no.txt", 9), Fetched::Failed));
     assert_eq!(rt; shelf.store(alloc, b"a.txt", b"older"), Stored::Done);
     assert_eq!(rt; shelf.store(alloc, b"a.txt", b"new"), Stored::Done);
     assert!(rt;
         matches!(shelf.fetch(alloc, b"a.txt", 2), Fetched::Bytes(bytes) if bytes.as_slice() == b"ne".as_slice())
     );
     assert_eq!(rt; fs::read_to_string(&rt, "a.txt")?.as_str(), "new");
+    fs::remove_file(&rt, "a.txt")?;
     Ok(())
 }
 

@@ -66,8 +66,8 @@ pub fn run(
     Outside::of_source(source).call(rt)
 }
 
-// What a call told, and its status.
-fn assert_told(rt: &impl Abort, call: &Call, status: u8, output: &[u8], report: &[u8]) {
+/// What a call told, and its status.
+pub fn assert_told(rt: &impl Abort, call: &Call, status: u8, output: &[u8], report: &[u8]) {
     assert_eq!(rt; call.status, status);
     assert_eq!(rt; call.out.bytes(), output);
     assert_eq!(rt; call.err.bytes(), report);

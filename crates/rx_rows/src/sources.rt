@@ -1,75 +1,8 @@
-// The line form of a source, case by case.
-use crate::calls::run;
+// Sources: what a program keeps of its lines, and the two limits that a source can meet.
+use crate::calls::{assert_told, run};
 use rx_lines::read_program;
+use std::alloc::{AllocError, Global};
 use std::test::Fail;
-
-#[test]
-fn each_form_of_say_writes_its_text(rt: HostRuntime) -> Result<(), Fail> {
-    let cases: [(&[u8], &[u8]); 18] = [
-        (b"say", b"\n"),
-        (b"SAY 'x'", b"x\n"),
-        (b"sAy \"x\"", b"x\n"),
-        (b"say'x'", b"x\n"),
-        (b"say ''", b"\n"),
-        (b"say \"it\"\"s\"", b"it\"s\n"),
-        (b"say 'it''s'", b"it's\n"),
-        (b"say 'it\"s'", b"it\"s\n"),
-        (b"say ''''", b"'\n"),
-        (b" \t say \t 'x' \t ", b"x\n"),
-        (b"say 'a'\nsay 'b'\n", b"a\nb\n"),
-        (b"say 'a'\nsay 'b'", b"a\nb\n"),
-        (b"say 'a'\r\nsay 'b'\r\n", b"a\nb\n"),
-        (b"\n \n\t\nsay 'a'\n\n", b"a\n"),
-        (b"\r\nsay\r\n", b"\n"),
-        (b"say '\xff\x00 '", b"\xff\x00 \n"),
-        (b"say 'a\rb'", b"a\rb\n"),
-        (b"say 'say'", b"say\n"),
-    ];
-    for (source, output) in cases {
-        let call = run(&rt, source)?;
-        assert_eq!(rt; call.status, 0);
-        assert_eq!(rt; call.out.bytes(), output);
-        assert_eq!(rt; call.err.bytes(), b"".as_slice());
-    }
-    Ok(())
-}
-
-#[test]
-fn what_is_no_program_is_refused(rt: HostRuntime) -> Result<(), Fail> {
-    let cases: [&[u8]; 22] = [
-        b"say 1",
-        b"say a",
-        b"say 'a",
-        b"say 'a''",
-        b"say \"a'",
-        b"say 'a'x",
-        b"say 'a' 'b'",
-        b"say 'a''b' c",
-        b"say 'a'\"b\"",
-        b"/* */",
-        b"say; say",
-        b"says",
-        b"sa",
-        b"say.",
-        b"s ay",
-        b"'say'",
-        b"x = 'a'",
-        b"say\rsay",
-        b"say\r",
-        b"say 'x'\r\r\n",
-        b"say 'a\nb'",
-        b"say 'x'\nno\nsay 'y'",
-    ];
-    for source in cases {
-        let call = run(&rt, source)?;
-        assert_eq!(rt; call.status, 240);
-        assert_eq!(rt; call.out.bytes(), b"".as_slice());
-        assert_eq!(rt; call.err.bytes(), b"REX240 line 1 error 3\n".as_slice());
-        assert_eq!(rt; call.steps, 0);
-        assert_eq!(rt; call.schedule.len(), 0);
-    }
-    Ok(())
-}
 
 #[test]
 fn a_source_has_at_most_4_mebibytes(rt: HostRuntime) -> Result<(), Fail> {
@@ -81,9 +14,29 @@ fn a_source_has_at_most_4_mebibytes(rt: HostRuntime) -> Result<(), Fail> {
     Ok(())
 }
 
+// A string of one byte, doubled so often, and then a clause that says `big`.
+fn doublings(alloc: Global, count: usize) -> Result<Vec<u8>, AllocError> {
+    let mut source = b"a = 'x'\n".to_vec(alloc)?;
+    for _ in 0..count {
+        source.extend_from_slice(b"a = a || a\n")?;
+    }
+    source.extend_from_slice(b"say 'big'")?;
+    Ok(source)
+}
+
+#[test]
+fn a_string_has_at_most_16_mebibytes(rt: HostRuntime) -> Result<(), Fail> {
+    let within = run(&rt, doublings(rt.alloc(), 24)?.as_slice())?;
+    assert_told(&rt, &within, 0, b"big\n", b"");
+    let past = run(&rt, doublings(rt.alloc(), 25)?.as_slice())?;
+    assert_told(&rt, &past, 249, b"", b"REX005 line 26 activity 1\n");
+    assert_eq!(rt; past.steps, 26);
+    Ok(())
+}
+
 #[test]
 fn clauses_have_the_numbers_of_their_lines(rt: HostRuntime) -> Result<(), Fail> {
-    let source = b"say\n\n  say 'x'\r\n\nsay";
+    let source = b"say\n\n  x = 'x'\r\n\nsay x";
     let program = read_program(rt.alloc(), source)?.ok_or("no program")?;
     let clauses = program.main.clauses.as_slice();
     let numbers: Vec<u32> = clauses

@@ -1,3 +1,6 @@
+pub mod RowLemmas
+pub mod EvaluationLemmas
+pub mod ClauseLemmas
 pub mod MainLemmas
 pub mod Loads
 pub mod Plays

@@ -1,8 +1,10 @@
 -- The worlds of one activity: which pick is next.
-use Rattle.std.proofs.Common.{◌≡◌, ◌<◌, ℕ, zero, suc, ◌+◌, Bool, true, cond, ◌&&◌, List, [], ◌∷◌, drop, None, Some, refl, sym, ◌∙◌, ap, subst}
+use Rattle.std.proofs.Common.{Option, ◌≡◌, ◌<◌, ℕ, zero, suc, ◌+◌, Bool, true, cond, ◌&&◌, List, [], ◌∷◌, drop, None, Some, refl, sym, ◌∙◌, ap, subst}
 use Rattle.std.specs.Prelude.{IsTrue}
 use Rattle.std.proofs.lemmas.Bool.{lt-leb}
 use Rattle.rx_tree.specs.declared.clause.Clause.{Clause}
+use Rattle.rx_tree.specs.declared.note.Note.{Note}
+use Rattle.rx_tree.specs.Object.{Row}
 use Rattle.rx_tree.specs.declared.clause.Package.{Package}
 use Rattle.rx_tree.specs.World.{World, Activity}
 use Rattle.rx_machine.specs.Enabled.{may_step, least_from, or_else, robin}
@@ -27,21 +29,26 @@ robin-one w (suc last) activity one may =
     ∙ ap (λ xs. or_else (least_from w (suc last + 1) xs) (least_from w 1 (activity ∷ []))) (drop-none last)
     ∙ least-one w 1 activity may
 
-main-done : (program : Package) (left : List Clause) (output : List ℕ) (steps budget : ℕ) → is_done (step (main_world program left true output steps budget) 1) ≡ true
-main-done program [] output steps budget = refl
-main-done program (clause ∷ left) output steps budget = refl
+main-done : (program : Package) (left : List Clause) (rows : List Row) (output : List ℕ) (notes : List Note) (failed : Option ℕ) (steps budget : ℕ)
+    → is_done (step (main_world program left rows true output notes failed steps budget) 1) ≡ true
+main-done program [] rows output notes failed steps budget = refl
+main-done program (clause ∷ left) rows output notes failed steps budget = refl
 
 -- while the one activity is live and steps are left, it is the next, and may be picked
-main-goes : (program : Package) (left : List Clause) (output : List ℕ) (steps budget last : ℕ) → steps < budget
-    → (robin (main_world program left true output steps budget) last ≡ Some 1) × IsTrue (may_pick (main_world program left true output steps budget) 1)
-main-goes program left output steps budget last below = (
-  robin-one (main_world program left true output steps budget) last (main_activity program left true) refl refl,
-  ap (λ spent. is_going (cond spent Spent Going) && is_done (step (main_world program left true output steps budget) 1)) (lt-leb budget steps below)
-      ∙ main-done program left output steps budget,
+main-goes : (program : Package) (left : List Clause) (rows : List Row) (output : List ℕ) (notes : List Note) (failed : Option ℕ) (steps budget last : ℕ) → steps < budget
+    → (robin (main_world program left rows true output notes failed steps budget) last ≡ Some 1)
+    × IsTrue (may_pick (main_world program left rows true output notes failed steps budget) 1)
+main-goes program left rows output notes failed steps budget last below = (
+  robin-one (main_world program left rows true output notes failed steps budget) last (main_activity program left rows true) refl refl,
+  ap (λ spent. is_going (cond spent Spent Going) && is_done (step (main_world program left rows true output notes failed steps budget) 1)) (lt-leb budget steps below)
+      ∙ main-done program left rows output notes failed steps budget,
 )
 
-pub main-next : (program : Package) (left : List Clause) (live : Bool) (output : List ℕ) (steps budget last : ℕ) → live ≡ true → steps < budget
-    → (robin (main_world program left live output steps budget) last ≡ Some 1) × IsTrue (may_pick (main_world program left live output steps budget) 1)
-main-next program left live output steps budget last is below =
-    subst (λ (b : Bool). (robin (main_world program left b output steps budget) last ≡ Some 1) × IsTrue (may_pick (main_world program left b output steps budget) 1))
-    (sym is) (main-goes program left output steps budget last below)
+pub main-next : (program : Package) (left : List Clause) (rows : List Row) (live : Bool) (output : List ℕ) (notes : List Note) (failed : Option ℕ) (steps budget last : ℕ)
+    → live ≡ true → steps < budget
+    → (robin (main_world program left rows live output notes failed steps budget) last ≡ Some 1)
+    × IsTrue (may_pick (main_world program left rows live output notes failed steps budget) 1)
+main-next program left rows live output notes failed steps budget last is below =
+    subst (λ (b : Bool). (robin (main_world program left rows b output notes failed steps budget) last ≡ Some 1)
+    × IsTrue (may_pick (main_world program left rows b output notes failed steps budget) 1))
+    (sym is) (main-goes program left rows output notes failed steps budget last below)

@@ -8,7 +8,7 @@ use Rattle.rx_top.specs.MainWorld.{main_world}
 use Rattle.rx_top.specs.declared.kernel.Kernel.TheInside.{Inside}
 
 abbrev pub world_of : Inside → World
-world_of k = main_world k.program (drop k.at k.program.main.clauses) k.live k.output.items k.steps k.budget
+world_of k = main_world k.program (drop k.at k.program.main.clauses) k.variables k.live k.output.items k.notes.items k.failed k.steps k.budget
 
 -- the next pick of round robin while the world goes on, which may be taken
 abbrev pub IsNextPick : World → ℕ → Option ℕ → Type 0

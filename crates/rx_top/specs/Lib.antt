@@ -1,6 +1,9 @@
 pub mod Words
 pub mod MainWorld
 pub mod Kernel
+pub mod Rows
+pub mod ClauseRuns
+pub mod Terms
 pub mod Loading
 pub mod Ports
 pub mod Runs

@@ -2,7 +2,8 @@
 ghost use Rattle.std.specs.Prelude.{ℕ, List, [], IfOk};
 ghost use Rattle.rx_top.specs.Conclusions.{RanNothing};
 
-use std::alloc::{AllocError, Global};
+use rx_tree::OutOfMemory;
+use std::alloc::Global;
 
 /// What a call has to tell: the status that it ends with, the steps and the schedule that it gives back, and the bytes
 /// for standard output and standard error.
@@ -17,7 +18,7 @@ pub struct Conclusion {
 
 impl Conclusion {
     /// That nothing was run, with a status and a line for the report, or want of memory.
-    pub fn refused(alloc: Global, status: u8, line: &[u8]) -> Result<Conclusion, AllocError>
+    pub fn refused(alloc: Global, status: u8, line: &[u8]) -> Result<Conclusion, OutOfMemory>
         ensures { IfOk result (RanNothing status line.now) }
     {
         let report = Vec::from_slice(alloc, line)?;

@@ -2,24 +2,30 @@
 ghost use Rattle.std.specs.Prelude.{◌≡◌, ◌≢◌, ◌≤◌, ℕ, [], ◌++◌, false, None, OnOk, IfOk, IsTrue};
 ghost use Rattle.rx_tree.specs.World.{World};
 ghost use Rattle.rx_machine.specs.Opening.{opening};
-ghost use Rattle.rx_machine.specs.Step.{step, finish, line_said, Done};
+ghost use Rattle.rx_machine.specs.Step.{step, Done};
 ghost use Rattle.rx_machine.specs.End.{end, Going, status_of};
 ghost use Rattle.rx_machine.specs.Runs.{SerialRun, may_pick};
-ghost use Rattle.rx_machine.specs.Texts.{err_text, budget_line};
+ghost use Rattle.rx_machine.specs.Texts.{err_text};
 ghost use Rattle.rx_top.specs.Kernel.{IsNextPick};
 
-use itoa::Buffer;
-use rx_tree::{ClauseKind, Expr, OutOfMemory, Package, Value};
+use crate::clauses::run_clause;
+use crate::report::{notes_text, push_budget_line};
+use crate::variables::Variables;
+use rx_tree::{Note, OutOfMemory, Package};
 use std::alloc::{AllocError, Global};
 use std::marker::Model;
 
 /// The machine's state while a program runs. Contracts see its world.
 #[derive(Drop)]
 pub struct Kernel {
+    alloc: Global,
     program: Package,
     at: usize,
+    variables: Variables,
     live: bool,
     output: Vec<u8>,
+    notes: Vec<Note>,
+    failed: Option<u8>,
     steps: u64,
     budget: u64,
 }
@@ -28,43 +34,16 @@ impl Model for Kernel {
     ghost use Rattle.std.specs.Prelude.{◌≤◌, length};
     ghost use Rattle.rx_tree.specs.World.{World};
     ghost use Rattle.rx_top.specs.Kernel.{world_of};
+    ghost use Rattle.rx_tree.specs.contracts.expr.Expr as expr;
+    ghost use Rattle.std.specs.Coded.{codes};
 
     ghost Value = { World };
+
+    ghost coded = { Prim.hlevel (codes, expr.the_row.coded) };
 
     ghost view = { world_of };
 
     ghost invariant = { λ k. k.at ≤ length k.program.main.clauses };
-}
-
-// Writes what SAY says.
-fn say(output: &mut Vec<u8>, given: &Option<Expr>) -> Result<(), AllocError>
-    ensures { OnOk result (output.new.items ≡ output.old.items ++ line_said given.now) }
-{
-    if let Some(Expr::Const(Value::Str(text))) = given {
-        output.extend_from_slice(text.bytes())?;
-    }
-    output.push(b'\n')?;
-    Ok(())
-}
-
-// Does a clause.
-fn run_clause(output: &mut Vec<u8>, kind: &ClauseKind) -> Result<(), AllocError>
-    ensures { OnOk result ((w : World) → w.output ≡ output.old.items → finish w kind.now ≡ record w { output = output.new.items }) }
-{
-    match kind {
-        ClauseKind::Say(given) => say(output, given),
-    }
-}
-
-// The line that tells that the steps are used up.
-fn report_budget(alloc: Global, budget: u64) -> Result<Vec<u8>, AllocError>
-    ensures { IfOk result (λ line. line.items ≡ budget_line budget) }
-{
-    let mut buffer = Buffer::new();
-    let mut line = Vec::from_slice(alloc, b"REX242 budget ")?;
-    line.extend_from_slice(buffer.format(budget).as_bytes())?;
-    line.push(b'\n')?;
-    Ok(line)
 }
 
 impl Kernel {
@@ -73,10 +52,14 @@ impl Kernel {
         ensures { result ≡ opening program None [] false budget }
     {
         Kernel {
+            alloc,
             program,
             at: 0,
+            variables: Variables::new(alloc),
             live: true,
             output: Vec::new(alloc),
+            notes: Vec::new(alloc),
+            failed: None,
             steps: 0,
             budget,
         }
@@ -94,7 +77,7 @@ impl Kernel {
     }
 
     /// The step of an activity, or want of memory.
-    pub fn step(&mut self, a: u32) -> Result<(), AllocError>
+    pub fn step(&mut self, a: u32) -> Result<(), OutOfMemory>
         requires { IsTrue (may_pick self.old a) }
         ensures { OnOk result (step self.old a ≡ Done self.new) }
     {
@@ -102,8 +85,23 @@ impl Kernel {
             self.live = false;
         } else {
             let clause = &self.program.main.clauses.as_slice()[self.at];
-            run_clause(&mut self.output, &clause.kind)?;
-            self.at += 1;
+            match run_clause(
+                self.alloc,
+                &mut self.variables,
+                &mut self.output,
+                &clause.kind,
+            )? {
+                None => self.at += 1,
+                Some(number) => {
+                    self.notes.push(Note::Error {
+                        number,
+                        line: clause.line,
+                        activity: 1,
+                    })?;
+                    self.failed = Some(number);
+                    self.live = false;
+                }
+            }
         }
         self.steps += 1;
         Ok(())
@@ -114,19 +112,25 @@ impl Kernel {
         requires { end self.now ≢ Going }
         ensures { result ≡ status_of self.now }
     {
-        if self.live { 242 } else { 0 }
+        if self.live {
+            242
+        } else if self.failed.is_some() {
+            249
+        } else {
+            0
+        }
     }
 
     /// What the report says of a world that doesn't go on, or want of memory.
-    pub fn report(&self, alloc: Global) -> Result<Vec<u8>, AllocError>
+    pub fn report(&self) -> Result<Vec<u8>, AllocError>
         requires { end self.now ≢ Going }
         ensures { IfOk result (λ report. report.items ≡ err_text self.now) }
     {
+        let mut report = notes_text(self.alloc, self.notes.as_slice())?;
         if self.live {
-            report_budget(alloc, self.budget)
-        } else {
-            Ok(Vec::new(alloc))
+            push_budget_line(&mut report, self.budget)?;
         }
+        Ok(report)
     }
 
     /// How many steps were taken.
@@ -145,7 +149,7 @@ impl Kernel {
 }
 
 /// Runs to the end, each pick the next in a circle, and gives the picks; or want of memory.
-pub fn run_serial(alloc: Global, kernel: &mut Kernel) -> Result<Vec<u32>, AllocError>
+pub fn run_serial(alloc: Global, kernel: &mut Kernel) -> Result<Vec<u32>, OutOfMemory>
     ensures run { IfOk result (λ picks. SerialRun kernel.old picks.items kernel.new) }
     ensures ended { OnOk result (end kernel.new ≢ Going) }
 {

@@ -4,12 +4,16 @@
 #![tactic(auto)]
 
 mod call;
+mod clauses;
 mod conclusion;
+mod evaluation;
 mod kernel;
 mod loading;
 mod playing;
+mod report;
 mod telling;
 mod top;
+mod variables;
 mod words;
 
 pub use call::rexx_call;

@@ -10,7 +10,8 @@ use crate::playing::play;
 use crate::telling::tell;
 use crate::words::{Request, WordsRefused, read_words};
 use rx_ports::{Accepted, Shelf, Sink, Source};
-use std::alloc::{AllocError, Global};
+use rx_tree::OutOfMemory;
+use std::alloc::Global;
 
 /// What a call gives back.
 #[derive(Drop)]
@@ -28,7 +29,7 @@ pub struct Ended<F, I, O, E> {
 }
 
 // Does what a request asks for, or wants memory.
-fn fulfil<F: Shelf>(alloc: Global, asks: &Request, shelf: &mut F) -> Result<Conclusion, AllocError>
+fn fulfil<F: Shelf>(alloc: Global, asks: &Request, shelf: &mut F) -> Result<Conclusion, OutOfMemory>
     ensures conclusion { IfOk result (Fulfils asks.now (F.files shelf.old) (F.faults shelf.old) (F.faults shelf.new)) }
     ensures files { F.files shelf.new ≡ F.files shelf.old }
 {
@@ -36,7 +37,7 @@ fn fulfil<F: Shelf>(alloc: Global, asks: &Request, shelf: &mut F) -> Result<Conc
         Loaded::Found(program) => play(alloc, program, asks.steps()),
         Loaded::NoProgram => Conclusion::refused(alloc, 240, b"REX240 line 1 error 3\n"),
         Loaded::ShelfFault => Conclusion::refused(alloc, 244, b"REX244 shelf\n"),
-        Loaded::NoMemory => Err(AllocError),
+        Loaded::NoMemory => Err(OutOfMemory),
     }
 }
 
@@ -48,7 +49,7 @@ fn conclude<F: Shelf>(alloc: Global, words: &[Vec<u8>], shelf: &mut F) -> Conclu
     let told = match read_words(alloc, words) {
         Ok(asks) => fulfil(alloc, &asks, shelf),
         Err(WordsRefused::NotARequest) => Conclusion::refused(alloc, 243, b"REX243 words\n"),
-        Err(WordsRefused::OutOfMemory) => Err(AllocError),
+        Err(WordsRefused::OutOfMemory) => Err(OutOfMemory),
     };
     match told {
         Ok(told) => told,

@@ -1,6 +1,7 @@
 // Clauses, bodies and packages.
 use crate::class::ClassDef;
 use crate::expr::Expr;
+use crate::name::Name;
 use crate::text::Text;
 use sqlite_items::Items;
 
@@ -9,6 +10,8 @@ use sqlite_items::Items;
 pub enum ClauseKind {
     /// `SAY`, with the expression whose string is written, if there is one.
     Say(Option<Expr>),
+    /// The assignment of an expression's value to a variable.
+    Assign(Name, Expr),
 }
 
 /// A clause, with the line of the source that it begins on, from 1.

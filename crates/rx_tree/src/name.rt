@@ -16,10 +16,6 @@ pub enum Part {
 pub enum Name {
     /// A simple variable.
     Simple(Text),
-    /// A stem, with its period.
-    Stem(Text),
-    /// A compound variable: its stem with the period, and the parts of its tail.
-    Compound(Text, Items<Part>),
 }
 
 /// A variable's name whose tail parts are replaced by their values. Letters are in upper case.

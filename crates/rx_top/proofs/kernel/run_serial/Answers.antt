@@ -1,5 +1,5 @@
 use Rattle.std.proofs.Common.{◌≡◌, ◌∷◌, [], ◌++◌, sym, ◌∙◌, ap, rules}
-use Rattle.rx_machine.proofs.RunLemmas.{SerialRun-next, last_of-snoc}
+use Rattle.rx_machine.proofs.RunLemmas.{SerialRun-next, last_of-snoc, step-spends}
 use Rattle.rx_machine.specs.Runs.{last_of}
 use Rattle.rx_top.proofs.kernel.run_serial.Goals as goal
 
@@ -11,3 +11,6 @@ loop-a-preserved c =
           c.loop-a.invariant.run c.loop-a.invariant.last c.in-Some.ensures.0 c.in-Some.ensures.1 c.in_ok-step.ensures pushed;
       last = sym (ap (last_of 0) pushed ∙ last_of-snoc 0 c.loop-a.picks.items c.in-Some.a);
     }
+
+pub loop-a-smaller : goal.loop-a-smaller
+loop-a-smaller c = step-spends c.loop-a.kernel c.step.new.self c.in-Some.a c.in-Some.ensures.1 c.in_ok-step.ensures

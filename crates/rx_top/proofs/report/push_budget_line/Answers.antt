@@ -1,0 +1,6 @@
+use Rattle.std.proofs.Common.{append_assoc}
+use Rattle.rx_top.proofs.report.push_budget_line.Goals as goal
+
+pub returns : goal.returns
+returns c =
+    rw (c.in_ok-push.ensures.items, c.in_ok-push_number.ensures, c.in_ok-extend_from_slice.ensures.items) (simp append_assoc)

@@ -1,0 +1,13 @@
+-- The rows that a table of variables stands for.
+use Rattle.std.specs.Prelude.{ℕ, Vec, List, map}
+use Rattle.std.specs.declared.alloc.Global.{Global}
+use Rattle.rx_tree.specs.declared.value.Value.{Value}
+use Rattle.rx_tree.specs.declared.name.Derived.TheVariants.{Simple}
+use Rattle.rx_tree.specs.Object.{Row}
+
+abbrev pub row_of : Vec ℕ Global × Value → Row
+row_of entry = record { name = Simple entry.0.items; value = entry.1 }
+
+-- the rows of simple names with their values, in order
+abbrev pub rows_of : List (Vec ℕ Global × Value) → List Row
+rows_of entries = map row_of entries
