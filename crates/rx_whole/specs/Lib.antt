@@ -1,0 +1,4 @@
+pub mod Digits
+pub mod Number
+pub mod Numeral
+pub mod Arithmetic
