@@ -1,16 +1,9 @@
 -- How a world stands: whether it goes on, how it has ended, and what its activities wait for.
 use Rattle.std.specs.Prelude.{ℕ, suc, nat_le, Bool, true, false, cond, ◌||◌, List, [], ◌∷◌, Option, None, Some}
 use Rattle.rx_tree.specs.World.{World, Activity, Wait, ForMessage, Ending, NoValue, Given, Failed}
+use Rattle.rx_machine.specs.declared.end.End.{End}
+use Rattle.rx_machine.specs.declared.end.End.TheVariants.{Going, Finished, Stuck, Spent}
 use Rattle.rx_machine.specs.Enabled.{is_live, least_enabled}
-
-pub data End : Type 0 where
-  Going : End
-  -- no activity is live
-  Finished : End
-  -- activities are live, and none is enabled
-  Stuck : End
-  -- the steps are used up
-  Spent : End
 
 abbrev pub any_live : List Activity → Bool
 any_live [] = false

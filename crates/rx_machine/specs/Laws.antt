@@ -1,10 +1,11 @@
 -- The laws of runs that later proofs stand on, each a statement that a function of this crate carries.
-use Rattle.std.specs.Prelude.{◌≡◌, ◌<◌, ◌+◌, ℕ, Bool, false, List, [], ◌∷◌, ◌++◌, length, Some, IsTrue}
+use Rattle.std.specs.Prelude.{◌≡◌, ◌≢◌, ◌<◌, ◌+◌, ℕ, Bool, false, List, [], ◌∷◌, ◌++◌, length, None, Some, IsTrue}
 use Rattle.rx_tree.specs.declared.note.Note.{Note}
 use Rattle.rx_tree.specs.World.{World}
 use Rattle.rx_machine.specs.Enabled.{enabled, robin}
 use Rattle.rx_machine.specs.Step.{step}
-use Rattle.rx_machine.specs.End.{end, Going}
+use Rattle.rx_machine.specs.declared.end.End.TheVariants.{Going}
+use Rattle.rx_machine.specs.End.{end}
 use Rattle.rx_machine.specs.Runs.{run, is_done, may_pick, legal, IsSerialAfter, last_of}
 use Rattle.rx_machine.specs.Input.{with_more}
 
@@ -41,6 +42,10 @@ NoActivityZero = (w : World) → enabled w 0 ≡ false
 -- What round robin picks is enabled.
 abbrev pub RobinIsEnabled : Type 0
 RobinIsEnabled = (w : World) (last a : ℕ) → robin w last ≡ Some a → IsTrue (enabled w a)
+
+-- A world that goes on has a next pick.
+abbrev pub GoingHasANext : Type 0
+GoingHasANext = (w : World) (last : ℕ) → end w ≡ Going → robin w last ≢ None
 
 -- More input changes no earlier step: picks that are legal while the end of input isn't known are legal with more lines
 -- behind, and with the end known, and lead to the same world but for these lines.

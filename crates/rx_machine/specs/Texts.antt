@@ -3,7 +3,9 @@ use Rattle.std.specs.Prelude.{ℕ, ◌/◌, ◌%◌, ◌+◌, List, [], ◌∷�
 use Rattle.rx_tree.specs.declared.note.Note.{Note}
 use Rattle.rx_tree.specs.declared.note.Note.TheVariants.{Error}
 use Rattle.rx_tree.specs.World.{World}
-use Rattle.rx_machine.specs.End.{End, Going, Finished, Stuck, Spent, end, Cause, OfMessage, WaitRow, waits}
+use Rattle.rx_machine.specs.declared.end.End.{End}
+use Rattle.rx_machine.specs.declared.end.End.TheVariants.{Going, Finished, Stuck, Spent}
+use Rattle.rx_machine.specs.End.{end, Cause, OfMessage, WaitRow, waits}
 
 -- three decimal digits of a number below 1,000
 abbrev pub three_digits : ℕ → List ℕ

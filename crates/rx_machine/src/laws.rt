@@ -1,5 +1,5 @@
 // Laws of the machine. A function here has nothing to do: its contract is the law.
-ghost use Rattle.rx_machine.specs.Laws.{GoingIsBelowBudget, LegalPicksExtend, MoreInputKeepsRuns, MoreInputKeepsTheCircle, NoActivityZero, NotesGrow, OutputGrows, PicksAreEnabled, RobinIsEnabled, RunsAppend, RunsKeepTheProgram, SerialPicksExtend, StepsArePicks};
+ghost use Rattle.rx_machine.specs.Laws.{GoingHasANext, GoingIsBelowBudget, LegalPicksExtend, MoreInputKeepsRuns, MoreInputKeepsTheCircle, NoActivityZero, NotesGrow, OutputGrows, PicksAreEnabled, RobinIsEnabled, RunsAppend, RunsKeepTheProgram, SerialPicksExtend, StepsArePicks};
 
 /// A run goes on where it stood.
 pub fn runs_append()
@@ -39,6 +39,11 @@ pub fn no_activity_zero()
 /// What round robin picks is enabled.
 pub fn robin_is_enabled()
     ensures law { RobinIsEnabled }
+{}
+
+/// A world that goes on has a next pick.
+pub fn going_has_a_next()
+    ensures law { GoingHasANext }
 {}
 
 /// More input changes no earlier step.

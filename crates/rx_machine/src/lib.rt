@@ -4,12 +4,14 @@
 //! a law of these definitions as its contract and does nothing.
 #![tactic(auto)]
 
+mod end;
 mod evaluated;
 mod laws;
 
+pub use end::End;
 pub use evaluated::Evaluated;
 pub use laws::{
-    going_is_below_budget, legal_picks_extend, more_input_keeps_runs, more_input_keeps_the_circle,
-    no_activity_zero, notes_grow, output_grows, picks_are_enabled, robin_is_enabled, runs_append,
-    runs_keep_the_program, serial_picks_extend, steps_are_picks,
+    going_has_a_next, going_is_below_budget, legal_picks_extend, more_input_keeps_runs,
+    more_input_keeps_the_circle, no_activity_zero, notes_grow, output_grows, picks_are_enabled,
+    robin_is_enabled, runs_append, runs_keep_the_program, serial_picks_extend, steps_are_picks,
 };

@@ -119,6 +119,38 @@ fn words_that_are_no_request_are_told_of(rt: HostRuntime) -> Result<(), Fail> {
 }
 
 #[test]
+fn steps_are_from_1_to_10_million(rt: HostRuntime) -> Result<(), Fail> {
+    let lists: [&[&[u8]]; 8] = [
+        &[b"run", b"--steps", b"a.rex"],
+        &[b"run", b"--steps", b"0", b"a.rex"],
+        &[b"run", b"--steps", b"10000001", b"a.rex"],
+        &[b"run", b"--steps", b"05", b"a.rex"],
+        &[b"run", b"--steps", b"+5", b"a.rex"],
+        &[b"run", b"--steps", b"5", b"--x"],
+        &[b"run", b"a.rex", b"--steps", b"5"],
+        &[b"run", b"--step", b"5", b"a.rex"],
+    ];
+    for words in lists {
+        let call = Outside::of_words(words, b"say").call(&rt)?;
+        assert_told(&rt, &call, 243, b"", b"REX243 words\n");
+    }
+    let most = Outside::of_words(&[b"run", b"--steps", b"10000000", b"a.rex"], b"say").call(&rt)?;
+    assert_told(&rt, &most, 0, b"\n", b"");
+    Ok(())
+}
+
+#[test]
+fn a_run_ends_where_its_steps_are_used_up(rt: HostRuntime) -> Result<(), Fail> {
+    let source = b"say 'Hello'";
+    let two = Outside::of_words(&[b"run", b"--steps", b"2", b"a.rex"], source).call(&rt)?;
+    assert_told(&rt, &two, 0, b"Hello\n", b"");
+    let one = Outside::of_words(&[b"run", b"--steps", b"1", b"a.rex"], source).call(&rt)?;
+    assert_told(&rt, &one, 242, b"Hello\n", b"REX242 budget 1\n");
+    assert_eq!(rt; one.schedule.as_slice(), [1].as_slice());
+    Ok(())
+}
+
+#[test]
 fn a_missing_file_and_a_failing_shelf_are_told_of(rt: HostRuntime) -> Result<(), Fail> {
     let missing = Outside::of_words(&[b"run", b"b.rex"], b"say").call(&rt)?;
     assert_told(&rt, &missing, 244, b"", b"REX244 shelf\n");

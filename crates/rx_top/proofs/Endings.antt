@@ -1,11 +1,12 @@
 -- How a call ends, from what its parts say.
-use Rattle.std.specs.Prelude.{Result, Ok, Err, IfOk}
 use Rattle.std.proofs.Common.{lit<, ◌≡◌, ◌<◌, inl, inr, ℕ, List, [], Option, None, Some, refl, sym, ◌∙◌, subst, arith}
 use Rattle.std.specs.Io.KnownBytes.{Appends}
 use Rattle.rx_tree.specs.declared.clause.Package.{Package}
 use Rattle.rx_tree.specs.World.{World, Ending}
 use Rattle.rx_tree.specs.World as world
-use Rattle.rx_machine.specs.End.{End, Going, Finished, Stuck, Spent, end, status_at, status_finished}
+use Rattle.rx_machine.specs.declared.end.End.{End}
+use Rattle.rx_machine.specs.declared.end.End.TheVariants.{Going, Finished, Stuck, Spent}
+use Rattle.rx_machine.specs.End.{end, status_at, status_finished}
 use Rattle.rx_ports.specs.Causes.{Rose}
 use Rattle.rx_ports.specs.Shelves.{Files}
 use Rattle.rx_ports.specs.declared.sink.Accepted.{Accepted}
@@ -222,7 +223,3 @@ pub tells-nothing : (before now : Ports) (told : Conclusion) (output report : Li
 tells-nothing before now told output report accepted status tells is_output is_report is is_status =
     let both : TellsPorts before now told.output.items told.report.items NoMemory = tells-told before now told output report accepted NoMemory tells is_output is_report is in
     AtWant is_status (record { wrote = both.0; reported = both.1 })
-
-pub if-ok : {T E : Type 0} (r : Result T E) (P Q : T → Type 0) → IfOk r P → ((x : T) → P x → Q x) → IfOk r Q
-if-ok (Ok x) P Q known then = then x known
-if-ok (Err e) P Q known then = tt

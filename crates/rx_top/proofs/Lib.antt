@@ -1,7 +1,5 @@
-pub mod RowLemmas
-pub mod EvaluationLemmas
-pub mod ClauseLemmas
-pub mod MainLemmas
+pub mod WordLemmas
+pub mod PickLemmas
 pub mod Loads
 pub mod Plays
 pub mod Endings

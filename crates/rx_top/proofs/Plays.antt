@@ -4,7 +4,8 @@ use Rattle.rx_tree.specs.declared.clause.Package.{Package}
 use Rattle.rx_tree.specs.World.{World}
 use Rattle.rx_machine.specs.Opening.{opening}
 use Rattle.rx_machine.specs.Input.{lines, with_more}
-use Rattle.rx_machine.specs.End.{end, Going, status_of}
+use Rattle.rx_machine.specs.declared.end.End.TheVariants.{Going}
+use Rattle.rx_machine.specs.End.{end, status_of}
 use Rattle.rx_machine.specs.Runs.{SerialRun, run}
 use Rattle.rx_machine.specs.Texts.{err_text}
 use Rattle.rx_machine.proofs.RunLemmas.{run-steps, run-unread}

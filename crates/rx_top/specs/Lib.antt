@@ -1,9 +1,5 @@
 pub mod Words
-pub mod MainWorld
-pub mod Kernel
-pub mod Rows
-pub mod ClauseRuns
-pub mod Terms
+pub mod Picks
 pub mod Loading
 pub mod Ports
 pub mod Runs

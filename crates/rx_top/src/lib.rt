@@ -4,16 +4,13 @@
 #![tactic(auto)]
 
 mod call;
-mod clauses;
 mod conclusion;
-mod evaluation;
-mod kernel;
 mod loading;
 mod playing;
 mod report;
+mod running;
 mod telling;
 mod top;
-mod variables;
 mod words;
 
 pub use call::rexx_call;

@@ -3,7 +3,9 @@ ghost use Rattle.std.specs.Prelude.{ℕ, List, IfOk};
 ghost use Rattle.rx_top.specs.Runs.{IsRunOf};
 
 use crate::conclusion::Conclusion;
-use crate::kernel::{Kernel, run_serial};
+use crate::report::report_of;
+use crate::running::run_serial;
+use rx_kernel::Kernel;
 use rx_tree::{OutOfMemory, Package};
 use std::alloc::Global;
 
@@ -14,7 +16,7 @@ pub fn play(alloc: Global, program: Package, budget: u64) -> Result<Conclusion, 
 {
     let mut kernel = Kernel::begin(alloc, program, budget);
     let schedule = run_serial(alloc, &mut kernel)?;
-    let report = kernel.report()?;
+    let report = report_of(alloc, &kernel)?;
     Ok(Conclusion {
         status: kernel.status(),
         steps: kernel.steps(),

@@ -1,7 +1,12 @@
 // The words of a command line.
 ghost use Rattle.std.specs.Prelude.{◌≡◌, ℕ, List, map};
-ghost use Rattle.rx_top.specs.Words.{request, is_option, program_of, steps_of, IsReading};
+ghost use Rattle.std.specs.Option.{option_and_then};
+ghost use Rattle.rx_whole.specs.Number.{num};
+ghost use Rattle.rx_whole.specs.Numeral.{numeral_of};
+ghost use Rattle.rx_top.specs.Words.{request, is_option, is_number_between, number_between, run_of, run_request, program_of, steps_of, IsReading};
 
+use itoa::Buffer;
+use rx_whole::{Numeral, read_number};
 use sqlite_items::Items;
 use std::alloc::Global;
 use thiserror::Error;
@@ -55,6 +60,12 @@ pub enum WordsRefused {
     OutOfMemory,
 }
 
+// How many steps a run may take where nothing is said.
+const DEFAULT_STEPS: u64 = 1_000_000;
+
+// The most steps that a run may take.
+const MOST_STEPS: u64 = 10_000_000;
+
 // It begins with two hyphens.
 fn is_option(word: &[u8]) -> bool
     ensures { result ≡ is_option word.now }
@@ -62,22 +73,74 @@ fn is_option(word: &[u8]) -> bool
     matches!(word, [b'-', b'-', ..])
 }
 
-/// The request that the words are: `run` and the name of a file, which begins with no `--`. Other words are refused.
+// Whether a word is the decimal digits of so many steps, which a run may take.
+fn are_steps(word: &[u8], steps: u64) -> bool
+    ensures { result ≡ is_number_between 1 MOST_STEPS steps word.now }
+{
+    let mut buffer = Buffer::new();
+    word == buffer.format(steps).as_bytes() && 1 <= steps && steps <= MOST_STEPS
+}
+
+// How many steps a word asks for that is read as this number.
+fn steps_read(word: &[u8], number: i64) -> Option<u64>
+    requires { numeral_of (num word.now) ≡ Numeral.Whole number }
+    ensures { result ≡ number_between 1 MOST_STEPS word.now }
+{
+    let steps = number.unsigned_abs();
+    if are_steps(word, steps) {
+        Some(steps)
+    } else {
+        None
+    }
+}
+
+// How many steps a word asks for.
+fn read_steps(word: &[u8]) -> Option<u64>
+    ensures { result ≡ number_between 1 MOST_STEPS word.now }
+{
+    let Numeral::Whole(number) = read_number(word) else {
+        return None;
+    };
+    steps_read(word, number)
+}
+
+// How many steps a run may take, and the word that names its program.
+fn steps_and_program(words: &[Vec<u8>]) -> Option<(u64, &[u8])>
+    ensures { run_request (map (λ word. word.items) words.now) ≡ option_and_then (λ found. run_of found.0 found.1.now) result }
+{
+    match words {
+        [program] => Some((DEFAULT_STEPS, program.as_slice())),
+        [option, steps, program] if option.as_slice() == b"--steps".as_slice() => {
+            Some((read_steps(steps.as_slice())?, program.as_slice()))
+        }
+        _ => None,
+    }
+}
+
+/// The request that the words are: `run`, then perhaps `--steps` and a number from 1 to 10,000,000 in decimal digits
+/// without leading zeros, then the name of a file, which begins with no `--`. Other words are refused.
+#[tactic(auto, unfolding(crate::specs::Words::request))]
 pub fn read_words(alloc: Global, words: &[Vec<u8>]) -> Result<Request, WordsRefused>
     ensures reading { IsReading (map (λ word. word.items) words.now) result }
 {
-    let [command, program] = words else {
+    let [command, words @ ..] = words else {
         return Err(WordsRefused::NotARequest);
     };
-    if command.as_slice() != b"run".as_slice() || is_option(program.as_slice()) {
+    if command.as_slice() != b"run".as_slice() {
         return Err(WordsRefused::NotARequest);
     }
-    let Ok(program) = Items::from_slice(alloc, program.as_slice()) else {
+    let Some((steps, program)) = steps_and_program(words) else {
+        return Err(WordsRefused::NotARequest);
+    };
+    if is_option(program) {
+        return Err(WordsRefused::NotARequest);
+    }
+    let Ok(program) = Items::from_slice(alloc, program) else {
         return Err(WordsRefused::OutOfMemory);
     };
     Ok(Request::Run {
         workers: 0,
-        steps: 1_000_000,
+        steps,
         schedule: None,
         program,
         arg: None,

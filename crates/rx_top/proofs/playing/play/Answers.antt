@@ -5,5 +5,5 @@ pub returns : goal.returns
 returns c = record {
   run = λ input. played c.args.program c.args.budget c.begin-kernel.result c.run_serial.new.kernel _ input
       c.begin-kernel.ensures c.in_ok-schedule.ensures.run c.in_ok-schedule.ensures.ended
-      (record { status = c.status.ensures; steps = c.steps.ensures; output = c.into_output.ensures; report = c.in_ok-report.ensures });
+      (record { status = c.status.ensures.status; steps = c.steps.ensures; output = c.into_output.ensures; report = c.in_ok-report.ensures });
 }

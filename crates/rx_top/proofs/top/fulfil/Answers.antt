@@ -1,7 +1,8 @@
 use Rattle.std.proofs.Common.{ℕ, List}
 use Rattle.rx_top.specs.Conclusions.{Fulfils}
 use Rattle.rx_top.specs.Runs.{IsRunOf}
-use Rattle.rx_top.proofs.Endings.{fulfils-run, if-ok}
+use Rattle.rx_kernel.proofs.Results.{if-ok}
+use Rattle.rx_top.proofs.Endings.{fulfils-run}
 use Rattle.rx_top.proofs.top.fulfil.Goals as goal
 
 pub returns-in-Found-clause-conclusion : goal.returns-in-Found-clause-conclusion
