@@ -8,9 +8,10 @@ ghost use Rattle.rx_machine.specs.End.{end, status_of};
 use crate::clauses::run_clause;
 use crate::variables::Variables;
 use rx_machine::End;
-use rx_tree::{Note, OutOfMemory, Package};
+use rx_tree::{Note, OutOfMemory, Package, Steps};
 use std::alloc::Global;
 use std::marker::Model;
+use std::sync::ledger::Ledger;
 
 /// The machine's state while a program runs. Contracts see its world.
 #[derive(Drop)]
@@ -90,11 +91,13 @@ impl Kernel {
         }
     }
 
-    /// The step of an enabled activity, while the run goes on; or want of memory.
-    pub fn step(&mut self, a: u32) -> Result<(), OutOfMemory>
+    /// The step of an enabled activity, while the run goes on; or want of memory. `looks` counts how often it is looked
+    /// whether an activity waits, which no step of the language that runs has to know.
+    pub fn step<L: Ledger>(&mut self, a: u32, looks: &mut Steps<L>) -> Result<(), OutOfMemory>
         requires enabled { IsTrue (enabled self.old a) }
         requires going { end self.old ≡ End.Going }
         ensures step { OnOk result (step self.old a ≡ Done self.new) }
+        ensures looks { looks.new ≡ looks.old }
     {
         if self.at == self.program.main.clauses.len() {
             self.live = false;

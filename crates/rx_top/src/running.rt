@@ -6,8 +6,9 @@ ghost use Rattle.rx_top.specs.Picks.{IsNextPick};
 
 use rx_kernel::Kernel;
 use rx_machine::End;
-use rx_tree::OutOfMemory;
+use rx_tree::{OutOfMemory, Steps};
 use std::alloc::Global;
+use std::sync::ledger::Ledger;
 
 // The next pick in a circle while the run goes on.
 fn next_pick(kernel: &Kernel, last: u32) -> Option<u32>
@@ -20,14 +21,18 @@ fn next_pick(kernel: &Kernel, last: u32) -> Option<u32>
 }
 
 /// Runs to the end, each pick the next in a circle, and gives the picks; or want of memory.
-pub fn run_serial(alloc: Global, kernel: &mut Kernel) -> Result<Vec<u32>, OutOfMemory>
+pub fn run_serial<L: Ledger>(
+    alloc: Global,
+    kernel: &mut Kernel,
+    looks: &mut Steps<L>,
+) -> Result<Vec<u32>, OutOfMemory>
     ensures run { IfOk result (λ picks. SerialRun kernel.old picks.items kernel.new) }
     ensures ended { OnOk result (end kernel.new ≢ End.Going) }
 {
     let mut picks = Vec::new(alloc);
     let mut last = 0;
     while let Some(a) = next_pick(kernel, last) {
-        kernel.step(a)?;
+        kernel.step(a, looks)?;
         picks.push(a)?;
         last = a;
     }

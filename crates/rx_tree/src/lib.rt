@@ -11,6 +11,7 @@ mod crossing;
 mod expr;
 mod name;
 mod note;
+mod steps;
 mod text;
 mod token;
 mod value;
@@ -25,6 +26,7 @@ pub use crossing::{
 pub use expr::Expr;
 pub use name::{Derived, Name, Part, Place};
 pub use note::Note;
+pub use steps::Steps;
 pub use text::{OutOfMemory, Text};
 pub use token::{Oper, Token, TokenKind};
 pub use value::Value;

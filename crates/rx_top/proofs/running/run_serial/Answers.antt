@@ -5,7 +5,7 @@ use Rattle.rx_machine.specs.Runs.{last_of, may_pick}
 use Rattle.rx_top.proofs.running.run_serial.Goals as goal
 
 pub loop-a-preserved : goal.loop-a-preserved
-loop-a-preserved c =
+loop-a-preserved g c =
     let pushed : c.push.new.self.items ≡ c.loop-a.picks.items ++ c.in-Some.a ∷ [] = search rules in
     let may : IsTrue (may_pick c.loop-a.kernel c.in-Some.a) =
     may-be-picked c.loop-a.kernel c.step.new.self c.in-Some.a c.in-Some.ensures.enabled c.in-Some.ensures.going c.in_ok-step.ensures.step in
@@ -16,6 +16,6 @@ loop-a-preserved c =
     }
 
 pub loop-a-smaller : goal.loop-a-smaller
-loop-a-smaller c =
+loop-a-smaller g c =
     step-spends c.loop-a.kernel c.step.new.self c.in-Some.a
     (may-be-picked c.loop-a.kernel c.step.new.self c.in-Some.a c.in-Some.ensures.enabled c.in-Some.ensures.going c.in_ok-step.ensures.step) c.in_ok-step.ensures.step

@@ -1,8 +1,8 @@
 use Rattle.rx_top.proofs.Plays.{played}
-use Rattle.rx_top.proofs.playing.play.Goals as goal
+use Rattle.rx_top.proofs.playing.play_with.Goals as goal
 
 pub returns : goal.returns
-returns c = record {
+returns g c = record {
   run = λ input. played c.args.program c.args.budget c.begin-kernel.result c.run_serial.new.kernel _ input
       c.begin-kernel.ensures c.in_ok-schedule.ensures.run c.in_ok-schedule.ensures.ended
       (record { status = c.status.ensures.status; steps = c.steps.ensures; output = c.into_output.ensures; report = c.in_ok-report.ensures });
