@@ -1,0 +1,90 @@
+// The token of a string.
+ghost use Rattle.std.specs.Prelude.{◌≡◌, ◌≤◌, ◌+◌, [], length, IfOk, IfSome, option_map, codes};
+ghost use Rattle.rx_tree.specs.Strings.{takes_suffix, is_suffix, is_binary};
+ghost use Rattle.rx_scan.specs.Reader.{string_from, suffixed, string_at};
+ghost use Rattle.rx_scan.specs.Read.{IsRead, TextRead};
+
+use crate::bytes::begins_in_symbol;
+use crate::digits::packed;
+use crate::piece::{INVALID_DIGITS, Piece, Read, UNMATCHED};
+use rx_tree::{OutOfMemory, Text, TokenKind};
+use std::alloc::Global;
+
+// The text behind an opening quote, and the bytes behind the closing one; none where the line ends before it.
+fn read_text(
+    alloc: Global,
+    quote: u8,
+    bytes: &[u8],
+) -> Result<Option<(Vec<u8>, &[u8])>, OutOfMemory>
+    ensures text { IfOk result (λ read. TextRead read (string_from quote [] bytes.now)) }
+    ensures few { IfOk result (λ found. IfSome found (λ read. length read.0.items + length read.1.now ≤ length bytes.now)) }
+{
+    let mut text = Vec::new(alloc);
+    let mut rest = bytes;
+    while let [byte, more @ ..] = rest {
+        let mut next = more;
+        if *byte == quote {
+            match more {
+                [again, behind @ ..] if *again == quote => next = behind,
+                _ => return Ok(Some((text, more))),
+            }
+        } else if *byte == b'\n' {
+            return Ok(None);
+        }
+        text.push(*byte)?;
+        rest = next;
+    }
+    Ok(None)
+}
+
+fn is_binary(byte: u8) -> bool
+    ensures { result ≡ is_binary byte }
+{
+    byte == b'B' || byte == b'b'
+}
+
+fn is_suffix(byte: u8) -> bool
+    ensures { result ≡ is_suffix byte }
+{
+    is_binary(byte) || byte == b'X' || byte == b'x'
+}
+
+fn takes_suffix(bytes: &[u8]) -> bool
+    ensures { result ≡ takes_suffix bytes.now }
+{
+    match bytes {
+        [first, rest @ ..] => is_suffix(*first) && !begins_in_symbol(rest),
+        [] => false,
+    }
+}
+
+// The token of a text between quotes, by what stands behind it.
+fn suffixed<'a>(alloc: Global, text: &[u8], rest: &'a [u8]) -> Result<Read<'a>, OutOfMemory>
+    requires { length text.now ≤ Text.LONGEST }
+    ensures { IfOk result (IsRead (suffixed text.now rest.now)) }
+{
+    match rest {
+        [suffix, behind @ ..] if takes_suffix(rest) => {
+            let Some(bytes) = packed(alloc, is_binary(*suffix), text)? else {
+                return Ok(Read::Refused(INVALID_DIGITS));
+            };
+            let text = Text::from_slice(alloc, bytes.as_slice())?;
+            Ok(Read::Piece(Piece::Written(TokenKind::Quoted(text)), behind))
+        }
+        _ => {
+            let text = Text::from_slice(alloc, text)?;
+            Ok(Read::Piece(Piece::Written(TokenKind::Quoted(text)), rest))
+        }
+    }
+}
+
+/// The token of the string behind an opening quote.
+pub fn read_string(alloc: Global, quote: u8, bytes: &[u8]) -> Result<Read, OutOfMemory>
+    requires { length bytes.now ≤ Text.LONGEST }
+    ensures string { IfOk result (IsRead (string_at quote bytes.now)) }
+{
+    let Some((text, rest)) = read_text(alloc, quote, bytes)? else {
+        return Ok(Read::Refused(UNMATCHED));
+    };
+    suffixed(alloc, text.as_slice(), rest)
+}
