@@ -1,0 +1,9 @@
+//! Tests of the scanner: each form of a token by the tokens that it is read as, and long sources.
+#![tactic(auto)]
+
+#[cfg(test)]
+mod forms;
+#[cfg(test)]
+mod long;
+#[cfg(test)]
+mod shown;
