@@ -8,3 +8,4 @@ pub mod StringLemmas
 pub mod PieceLemmas
 pub mod CutLemmas
 pub mod ScanLemmas
+pub mod SplitLemmas

@@ -1,12 +1,13 @@
 -- The scanner's tokens are those that spell the source.
-use Rattle.std.proofs.Common.{◌≡◌, ◌+◌, ◌≤◌, ◌&&◌, ℕ, Bool, true, false, List, [], ◌∷◌, ◌++◌, Option, None, Some, length, refl, sym, ◌∙◌, ap, subst, arith, append_assoc, length-append}
+use Rattle.std.proofs.Common.{All, not, ◌≡◌, ◌+◌, ◌≤◌, ◌&&◌, ℕ, Bool, true, false, List, [], ◌∷◌, ◌++◌, Option, None, Some, length, refl, sym, ◌∙◌, ap, subst, arith, append_assoc, length-append}
 use denote.Ref.{Bor}
 use Rattle.std.specs.Prelude.{if◌then◌else◌, IsTrue}
 use Rattle.std.proofs.lemmas.List.{append-nil}
+use Rattle.std.proofs.lemmas.List.Elements.{All-push}
 use Rattle.rx_tree.specs.declared.token.Token.{Token}
 use Rattle.rx_tree.specs.declared.token.TokenKind.{TokenKind}
 use Rattle.rx_tree.specs.Pieces.{PieceKind, Blank, Nothing, LineEnd, Semicolon, Written, Piece, AreCut}
-use Rattle.rx_tree.specs.Spelling.{feeds, ends_line, may_continue, Place, first_place, clause_end_at, token_at, token_of, place_behind, before_others, tokens_of, Spells}
+use Rattle.rx_tree.specs.Spelling.{feeds, ends_line, may_continue, Place, first_place, clause_end_at, token_at, token_of, place_behind, before_others, tokens_of, Spells, IsOnLine}
 use Rattle.rx_scan.specs.Reader.{piece_at}
 use Rattle.rx_scan.specs.Read.{kind_of, IsRead, is_number}
 use Rattle.rx_scan.specs.declared.piece.Piece as p
@@ -136,3 +137,39 @@ push-length tokens longer token pushed =
 pub nothing-left : (bytes : List ℕ) → length bytes ≡ 0 → bytes ≡ []
 nothing-left [] none = refl
 nothing-left (b ∷ bytes) none = absurd (omega arith)
+
+-- Tokens stand on lines of the source.
+
+-- a token that has the line of its place
+abbrev pub HasLine : ℕ → Option Token → Type 0
+HasLine line None = Unit {0}
+HasLine line (Some token) = token.line ≡ line
+
+clause-end-line : (place : Place) (ends : Bool) → HasLine place.line (clause_end_at place ends)
+clause-end-line place true = refl
+clause-end-line place false = tt
+
+written-line : (place : Place) (kind : TokenKind) (drops : Bool) → HasLine place.line (if drops then None else Some (token_at place kind))
+written-line place kind true = tt
+written-line place kind false = refl
+
+token-line : (place : Place) (kind : PieceKind) (ends : Bool) → HasLine place.line (token_of place kind ends)
+token-line place Blank ends = tt
+token-line place Nothing ends = tt
+token-line place LineEnd ends = clause-end-line place (place.has_token && not place.continued)
+token-line place Semicolon ends = clause-end-line place place.has_token
+token-line place (Written kind) ends = written-line place kind (may_continue kind && ends)
+
+pub on-line-push : (source : List ℕ) (tokens longer : List Token) (token : Option Token) (line : ℕ) → All (IsOnLine source) tokens → HasLine line token
+    → 1 ≤ line → line ≤ feeds source + 1 → longer ≡ tokens ++ before_others token [] → All (IsOnLine source) longer
+on-line-push source tokens longer None line so_far has low high pushed =
+    subst (λ (ts : List Token). All (IsOnLine source) ts) (sym (pushed ∙ append-nil tokens)) so_far
+on-line-push source tokens longer (Some token) line so_far has low high pushed =
+    subst (λ (ts : List Token). All (IsOnLine source) ts) (sym pushed)
+    (All-push (IsOnLine source) tokens token so_far (omega arith, omega arith))
+
+pub on-line-piece : (place : Place) (kind : PieceKind) (ends : Bool) (token : Option Token) → token ≡ token_of place kind ends → HasLine place.line token
+on-line-piece place kind ends token is = subst (λ (t : Option Token). HasLine place.line t) (sym is) (token-line place kind ends)
+
+pub on-line-end : (place : Place) (ends : Bool) → HasLine place.line (clause_end_at place ends)
+on-line-end place ends = clause-end-line place ends

@@ -1,7 +1,10 @@
 -- What the functions inside the scanner give, as the definitions see it.
 use denote.Ref.{Bor}
-use Rattle.std.specs.Prelude.{◌≡◌, ◌==◌, ◌||◌, ℕ, Bool, List, Option, None, Some, option_map, Vec, IsTrue}
+use Rattle.std.specs.Prelude.{◌≡◌, ◌==◌, ◌||◌, ℕ, Bool, List, Option, None, Some, option_map, Vec, IsTrue, ◌∷◌, ◌++◌, not}
 use Rattle.std.specs.declared.alloc.Global.{Global}
+use Rattle.std.specs.List.{list_all}
+use Rattle.memchr.specs.Find.{is_byte2}
+use Rattle.rx_scan.specs.Reader.{string_from}
 use Rattle.rx_tree.specs.declared.token.TokenKind.{TokenKind}
 use Rattle.rx_tree.specs.Pieces.{PieceKind}
 use Rattle.rx_tree.specs.Pieces as s
@@ -42,3 +45,12 @@ is_number n = (n == 6) || ((n == 13) || (n == 15))
 abbrev pub IsRead : Option (PieceKind × List ℕ) → Read → Type 0
 IsRead found (r.Piece piece rest) = found ≡ Some (kind_of piece, rest.now)
 IsRead found (r.Refused number) = (found ≡ None) × IsTrue (is_number number)
+
+-- the text of a string ends at this quote, in front of the bytes behind it or at a further quote
+pub record IsSplit (quote : ℕ) (bytes front behind : List ℕ) : Type 0 where
+  pub is : bytes ≡ front ++ (quote ∷ behind)
+  pub plain : IsTrue (list_all (λ b. not (is_byte2 quote 10 b)) front)
+
+-- no string ends in these bytes before the line does
+abbrev pub HasNoQuote : ℕ → List ℕ → Type 0
+HasNoQuote quote bytes = (text : List ℕ) → string_from quote text bytes ≡ None

@@ -1,11 +1,11 @@
 // The tokens of a source.
-ghost use Rattle.std.specs.Prelude.{◌≡◌, ◌≤◌, ◌+◌, ◌++◌, List, [], length, IfOk, OnOk};
+ghost use Rattle.std.specs.Prelude.{◌≡◌, ◌≤◌, ◌+◌, ◌++◌, List, [], length, IfOk, OnOk, All};
 ghost use Rattle.rx_tree.specs.Comments.{is_line_end};
 ghost use Rattle.rx_tree.specs.Pieces.{AreCut};
 ghost use Rattle.rx_tree.specs.Pieces as pieces;
 ghost use Rattle.rx_tree.specs.Spelling as spelling;
 ghost use Rattle.rx_scan.specs.Read.{kind_of};
-ghost use Rattle.rx_tree.specs.Spelling.{feeds, ends_line, token_of, before_others, AtMostOneSpelling};
+ghost use Rattle.rx_tree.specs.Spelling.{feeds, ends_line, token_of, before_others, IsOnLine, AtMostOneSpelling};
 ghost use Rattle.rx_scan.specs.Scanned.{IsScanned};
 
 use crate::comment::behind_space;
@@ -102,6 +102,7 @@ fn push(tokens: &mut Items<Token>, token: Option<Token>) -> Result<(), AllocErro
 pub fn scan(alloc: Global, source: &[u8]) -> Result<Items<Token>, ScanRefused>
     requires short { length source.now ≤ LONGEST_SOURCE }
     ensures tokens { IsScanned source.now result }
+    ensures lines { IfOk result (All (IsOnLine source.now)) }
     ensures few { IfOk result (λ tokens. length tokens ≤ length source.now + 1) }
 {
     let mut tokens = Items::new(alloc);

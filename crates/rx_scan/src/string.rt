@@ -1,14 +1,39 @@
 // The token of a string.
-ghost use Rattle.std.specs.Prelude.{◌≡◌, ◌≤◌, ◌+◌, [], length, IfOk, IfSome, option_map, codes};
+ghost use Rattle.std.specs.Prelude.{◌≡◌, ◌==◌, ◌∷◌, false, ◌≤◌, ◌+◌, [], length, IfOk, IfSome, MatchOption, option_map, codes};
+ghost use Rattle.rx_tree.specs.Letters.{begins};
 ghost use Rattle.rx_tree.specs.Strings.{takes_suffix, is_suffix, is_binary};
 ghost use Rattle.rx_scan.specs.Reader.{string_from, suffixed, string_at};
-ghost use Rattle.rx_scan.specs.Read.{IsRead, TextRead};
+ghost use Rattle.rx_scan.specs.Read.{HasNoQuote, IsRead, IsSplit, TextRead};
 
 use crate::bytes::begins_in_symbol;
 use crate::digits::packed;
 use crate::piece::{INVALID_DIGITS, Piece, Read, UNMATCHED};
+use memchr::memchr2;
 use rx_tree::{OutOfMemory, Text, TokenKind};
 use std::alloc::Global;
+
+// The bytes up to the next quote, and those behind it; none where the line ends before it.
+fn split_text(quote: u8, bytes: &[u8]) -> Option<(&[u8], &[u8])>
+    ensures split { MatchOption result (HasNoQuote quote bytes.now) (λ split. IsSplit quote bytes.now split.0.now split.1.now) }
+{
+    let Some(at) = memchr2(quote, b'\n', bytes) else {
+        return None;
+    };
+    if bytes[at] != quote {
+        return None;
+    }
+    Some((&bytes[..at], &bytes[at + 1..]))
+}
+
+// The bytes behind a quote at the front.
+fn behind_quote(quote: u8, bytes: &[u8]) -> Option<&[u8]>
+    ensures { MatchOption result (begins (λ b. b == quote) bytes.now ≡ false) (λ more. bytes.now ≡ quote ∷ more.now) }
+{
+    match bytes {
+        [first, more @ ..] if *first == quote => Some(more),
+        _ => None,
+    }
+}
 
 // The text behind an opening quote, and the bytes behind the closing one; none where the line ends before it.
 fn read_text(
@@ -21,18 +46,13 @@ fn read_text(
 {
     let mut text = Vec::new(alloc);
     let mut rest = bytes;
-    while let [byte, more @ ..] = rest {
-        let mut next = more;
-        if *byte == quote {
-            match more {
-                [again, behind @ ..] if *again == quote => next = behind,
-                _ => return Ok(Some((text, more))),
-            }
-        } else if *byte == b'\n' {
-            return Ok(None);
-        }
-        text.push(*byte)?;
-        rest = next;
+    while let Some((front, behind)) = split_text(quote, rest) {
+        text.extend_from_slice(front)?;
+        let Some(more) = behind_quote(quote, behind) else {
+            return Ok(Some((text, behind)));
+        };
+        text.push(quote)?;
+        rest = more;
     }
     Ok(None)
 }

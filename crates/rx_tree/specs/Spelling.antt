@@ -1,5 +1,5 @@
 -- Which tokens a source is spelled by.
-use Rattle.std.specs.Prelude.{◌≡◌, ℕ, Bool, true, false, ◌+◌, ◌||◌, ◌&&◌, not, List, [], ◌∷◌, Option, None, Some, if◌then◌else◌, count_by}
+use Rattle.std.specs.Prelude.{◌≡◌, ◌≤◌, ℕ, Bool, true, false, ◌+◌, ◌||◌, ◌&&◌, not, List, [], ◌∷◌, Option, None, Some, if◌then◌else◌, count_by}
 use Rattle.rx_tree.specs.declared.token.Token.{Token}
 use Rattle.rx_tree.specs.declared.token.TokenKind.{TokenKind}
 use Rattle.rx_tree.specs.declared.token.TokenKind.TheVariants.{Comma, Operator, ClauseEnd}
@@ -117,3 +117,7 @@ pub record Spells (source : List ℕ) (tokens : List Token) : Type 0 where
 -- At most one list of tokens spells a source.
 abbrev pub AtMostOneSpelling : Type 0
 AtMostOneSpelling = (source : List ℕ) (tokens others : List Token) → Spells source tokens → Spells source others → tokens ≡ others
+
+-- A token stands on a line of the source.
+abbrev pub IsOnLine : List ℕ → Token → Type 0
+IsOnLine source token = (1 ≤ token.line) × (token.line ≤ feeds source + 1)

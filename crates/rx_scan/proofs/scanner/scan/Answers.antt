@@ -4,7 +4,7 @@ use Rattle.rx_tree.specs.Spelling.{feeds, before_others, clause_end_at}
 use Rattle.rx_scan.specs.Reader.{piece_at}
 use Rattle.rx_scan.specs.Read.{kind_of, place_of}
 use Rattle.rx_scan.proofs.CutLemmas.{front_of, feeds-split, piece_at-shorter}
-use Rattle.rx_scan.proofs.ScanLemmas.{HasScanned-more, Spells-read, none-spell, read-piece, read-refused, line-next, push-length, nothing-left}
+use Rattle.rx_scan.proofs.ScanLemmas.{HasScanned-more, Spells-read, none-spell, read-piece, read-refused, line-next, push-length, nothing-left, on-line-push, on-line-piece, on-line-end}
 use Rattle.rx_scan.proofs.scanner.scan.Goals as goal
 
 pub returns-in-Refused-clause-tokens : goal.returns-in-Refused-clause-tokens
@@ -49,6 +49,9 @@ loop-rest-preserved c =
           c.pass-token.ensures.behind pushed;
       lines = omega arith;
       from_one = let one : 1 ≤ c.loop-rest.place.line = c.loop-rest.invariant.from_one in omega arith;
+      on_line = on-line-push c.args.source.now c.loop-rest.tokens c.push.new.tokens c.pass-token.result.0 c.loop-rest.place.line
+          c.loop-rest.invariant.on_line (on-line-piece (place_of c.loop-rest.place) kind c.drops_out-at_end.result c.pass-token.result.0 c.pass-token.ensures.token)
+          c.loop-rest.invariant.from_one (omega arith) pushed;
       few = omega arith;
     }
 
@@ -58,3 +61,9 @@ returns-clause-tokens c =
     let none : c.loop-rest.rest.now ≡ [] = nothing-left c.loop-rest.rest.now empty in
     let pushed : c.push-2.new.tokens ≡ c.loop-rest.tokens ++ before_others (clause_end_at (place_of c.loop-rest.place) c.loop-rest.place.has_token) [] = search rules in
     Spells-read c.args.source.now c.loop-rest.rest.now c.loop-rest.tokens c.push-2.new.tokens (place_of c.loop-rest.place) c.loop-rest.invariant.scanned none pushed
+
+pub returns-clause-lines : goal.returns-clause-lines
+returns-clause-lines c =
+    let pushed : c.push-2.new.tokens ≡ c.loop-rest.tokens ++ before_others (clause_end_at (place_of c.loop-rest.place) c.loop-rest.place.has_token) [] = search rules in
+    on-line-push c.args.source.now c.loop-rest.tokens c.push-2.new.tokens _ c.loop-rest.place.line c.loop-rest.invariant.on_line
+    (on-line-end (place_of c.loop-rest.place) c.loop-rest.place.has_token) c.loop-rest.invariant.from_one (omega arith) pushed

@@ -1,5 +1,6 @@
 use Rattle.std.proofs.Common.{◌≡◌, ◌+◌, ◌≤◌, length}
-use Rattle.rx_tree.specs.Spelling.{feeds}
+use Rattle.std.specs.Prelude.{All}
+use Rattle.rx_tree.specs.Spelling.{feeds, IsOnLine}
 use Rattle.rx_scan.specs.Read.{place_of}
 use Rattle.rx_scan.proofs.ScanLemmas.{HasScanned}
 use Rattle.rx_scan.proofs.scanner.scan.Given as goal
@@ -10,6 +11,7 @@ invariant-loop-rest l = record {
   scanned : HasScanned l.source l.tokens (place_of l.place) l.rest;
   lines : l.place.line + feeds l.rest ≡ 1 + feeds l.source;
   from_one : 1 ≤ l.place.line;
+  on_line : All (IsOnLine l.source) l.tokens;
   few : length l.tokens + length l.rest ≤ length l.source;
 }
 
