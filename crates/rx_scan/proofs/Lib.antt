@@ -9,3 +9,4 @@ pub mod PieceLemmas
 pub mod CutLemmas
 pub mod ScanLemmas
 pub mod SplitLemmas
+pub mod MarkSearchLemmas

@@ -1,12 +1,12 @@
 // Blanks, comments and dropped carriage returns.
-ghost use Rattle.std.specs.Prelude.{◌≡◌, ◌∷◌, [], MatchOption, option_map};
+ghost use Rattle.std.specs.Prelude.{◌≡◌, ◌≤◌, ◌∷◌, ℕ, [], length, MatchOption, option_map};
 ghost use Rattle.rx_tree.specs.Letters.{is_feed, begins};
 ghost use Rattle.rx_tree.specs.Comments.{is_opening, is_closing};
 ghost use Rattle.rx_scan.specs.Reader.{close_from, line_rest, comment_at, space_at};
 ghost use Rattle.rx_scan.specs.Read.{SpaceRead, rest_of};
 
 use crate::piece::Piece;
-use memchr::memchr;
+use memchr::{memchr, memchr2};
 use rx_text::is_blank;
 
 fn is_opening(first: u8, second: u8) -> bool
@@ -31,13 +31,24 @@ fn split_first(bytes: &[u8]) -> Option<(u8, &[u8])>
     }
 }
 
+// The bytes from the first on that may begin a mark of a comment.
+fn from_mark(bytes: &[u8]) -> &[u8]
+    ensures same { (n : ℕ) → close_from n result.now ≡ close_from n bytes.now }
+    ensures within { length result.now ≤ length bytes.now }
+{
+    match memchr2(b'*', b'/', bytes) {
+        Some(at) => &bytes[at..],
+        None => &[],
+    }
+}
+
 // What stands behind the comment whose opening mark was read.
 fn close(bytes: &[u8]) -> Option<&[u8]>
     ensures { rest_of result ≡ close_from 0 bytes.now }
 {
     let mut depth = 0usize;
     let mut rest = bytes;
-    while let Some((first, more)) = split_first(rest) {
+    while let Some((first, more)) = split_first(from_mark(rest)) {
         let Some((second, behind)) = split_first(more) else {
             return None;
         };

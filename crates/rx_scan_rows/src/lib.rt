@@ -1,4 +1,4 @@
-//! Tests of the scanner: each form of a token by the tokens that it is read as, and long sources.
+//! Tests of the scanner and of the texts below it: each form of a token by the tokens that it is read as, and long sources.
 #![tactic(auto)]
 
 #[cfg(test)]
@@ -7,3 +7,5 @@ mod forms;
 mod long;
 #[cfg(test)]
 mod shown;
+#[cfg(test)]
+mod texts;
