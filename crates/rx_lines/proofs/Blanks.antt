@@ -3,7 +3,7 @@ use Rattle.std.proofs.Common.{◌≡◌, ℕ, Bool, true, false, cond, ◌&&◌,
 use Rattle.std.proofs.lemmas.List.{append-nil}
 use Rattle.std.specs.Cmp.{first_so, second_so}
 use Rattle.std.specs.List.{list_all}
-use Rattle.rx_lines.specs.Tokens.{is_blank, begins}
+use Rattle.rx_tree.specs.Letters.{is_blank, begins}
 use Rattle.rx_lines.specs.Reader.{without_blanks}
 
 pub both_so : (s t : Bool) → s ≡ true → t ≡ true → (s && t) ≡ true

@@ -5,7 +5,8 @@ use Rattle.rx_tree.specs.declared.token.Oper.{Oper}
 use Rattle.rx_tree.specs.declared.token.Oper.TheVariants.{Concat, Equal}
 use Rattle.rx_tree.specs.declared.token.TokenKind.{TokenKind}
 use Rattle.rx_tree.specs.declared.token.TokenKind.TheVariants.{Simple, Quoted, Operator}
-use Rattle.rx_lines.specs.Tokens.{Spells, IsSign, IsToken, doubled}
+use Rattle.rx_tree.specs.Strings.{doubled}
+use Rattle.rx_lines.specs.Tokens.{Spells, IsSign, IsToken}
 use Rattle.rx_lines.specs.Reader.{without_blanks, first_token, AreTokens, HasNoTokens}
 use Rattle.rx_lines.proofs.Blanks.{HasBlanks, has-blanks, without_blanks-gap, without_blanks-stop, without_blanks-all, without_blanks-twice, all-blank}
 use Rattle.rx_lines.proofs.TokenLemmas.{BeginsWith, first_token-is, first_token-written, token-front}

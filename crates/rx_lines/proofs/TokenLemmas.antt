@@ -12,7 +12,9 @@ use Rattle.rx_tree.specs.declared.token.Oper.{Oper}
 use Rattle.rx_tree.specs.declared.token.Oper.TheVariants.{Concat, Equal}
 use Rattle.rx_tree.specs.declared.token.TokenKind.{TokenKind}
 use Rattle.rx_tree.specs.declared.token.TokenKind.TheVariants.{Simple, Quoted, Operator}
-use Rattle.rx_lines.specs.Tokens.{is_blank, is_digit, is_name_byte, is_symbol_byte, is_name, begins, doubled, IsQuoted, IsNamed, IsSign, IsToken}
+use Rattle.rx_tree.specs.Letters.{is_blank, is_digit, begins}
+use Rattle.rx_tree.specs.Strings.{doubled}
+use Rattle.rx_lines.specs.Tokens.{is_name_byte, is_symbol_byte, is_name, IsQuoted, IsNamed, IsSign, IsToken}
 use Rattle.rx_lines.specs.Reader.{string_from, string_at_quote, quoted_token, named_token, name_at, join_behind, equal_behind, sign_or_name, first_token}
 use Rattle.rx_lines.proofs.Blanks.{both_so}
 

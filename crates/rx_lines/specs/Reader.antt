@@ -15,7 +15,8 @@ use Rattle.rx_tree.specs.declared.expr.Expr.TheVariants.{Const, Name}
 use Rattle.rx_tree.specs.declared.clause.ClauseKind.{ClauseKind}
 use Rattle.rx_tree.specs.declared.clause.ClauseKind.TheVariants.{Say, Assign}
 use Rattle.rx_lines.specs.Clauses.{chained}
-use Rattle.rx_lines.specs.Tokens.{is_blank, is_digit, is_name_byte, is_symbol_byte, begins, Spells}
+use Rattle.rx_tree.specs.Letters.{is_blank, is_digit, begins}
+use Rattle.rx_lines.specs.Tokens.{is_name_byte, is_symbol_byte, Spells}
 
 -- the bytes from the first that is no blank
 abbrev pub without_blanks : List ℕ → List ℕ

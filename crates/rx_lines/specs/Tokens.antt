@@ -1,24 +1,13 @@
 -- Which tokens a line is written with.
-use Rattle.std.specs.Prelude.{◌≡◌, ℕ, Bool, false, ◌==◌, ◌||◌, ◌&&◌, not, nat_le, List, [], ◌∷◌, ◌++◌, IsTrue, ◌⊎◌, if◌then◌else◌}
+use Rattle.std.specs.Prelude.{◌≡◌, ℕ, Bool, false, ◌==◌, ◌||◌, ◌&&◌, not, List, [], ◌∷◌, ◌++◌, IsTrue, ◌⊎◌}
 use Rattle.std.specs.List.{list_all}
 use Rattle.std.specs.Str.{str_to_ascii_uppercase}
+use Rattle.rx_tree.specs.Letters.{is_blank, is_digit, is_letter, begins}
+use Rattle.rx_tree.specs.Strings.{doubled}
 use Rattle.rx_tree.specs.declared.token.Oper.{Oper}
 use Rattle.rx_tree.specs.declared.token.Oper.TheVariants.{Concat, Equal}
 use Rattle.rx_tree.specs.declared.token.TokenKind.{TokenKind}
 use Rattle.rx_tree.specs.declared.token.TokenKind.TheVariants.{Simple, Quoted, Operator}
-
--- A blank is a space or a tab.
-abbrev pub is_blank : ℕ → Bool
-is_blank b = (b == 32) || (b == 9)
-
-abbrev pub is_between : ℕ → ℕ → ℕ → Bool
-is_between low high b = nat_le low b && nat_le b high
-
-abbrev pub is_digit : ℕ → Bool
-is_digit b = is_between 48 57 b
-
-abbrev pub is_letter : ℕ → Bool
-is_letter b = is_between 97 122 b || is_between 65 90 b
 
 -- A byte of a name: a letter, a digit, `!`, `?` or `_`.
 abbrev pub is_name_byte : ℕ → Bool
@@ -32,16 +21,6 @@ is_symbol_byte b = is_name_byte b || (b == 46)
 abbrev pub is_name : List ℕ → Bool
 is_name [] = false
 is_name (first ∷ bytes) = (is_name_byte first && not (is_digit first)) && list_all is_name_byte bytes
-
--- whether the first of these bytes passes a test
-abbrev pub begins : (ℕ → Bool) → List ℕ → Bool
-begins test [] = false
-begins test (b ∷ bytes) = test b
-
--- a text with each quote doubled
-abbrev pub doubled : ℕ → List ℕ → List ℕ
-doubled quote [] = []
-doubled quote (b ∷ text) = if b == quote then quote ∷ (quote ∷ doubled quote text) else b ∷ doubled quote text
 
 -- A string between quotes of one kind, in which a doubled quote is one; no further such quote follows.
 pub record IsQuoted (quote : ℕ) (text written rest : List ℕ) : Type 0 where

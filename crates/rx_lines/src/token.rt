@@ -2,7 +2,8 @@
 ghost use Rattle.std.specs.Prelude.{◌≡◌, ◌≤◌, ◌<◌, ◌+◌, ℕ, List, length, [], IfOk, IfSome, OnSome, Some, option_map, not};
 ghost use Rattle.std.specs.List.{prefix_len};
 ghost use Rattle.std.specs.Str.{str_to_ascii_uppercase};
-ghost use Rattle.rx_lines.specs.Tokens.{is_digit, is_name_byte, is_symbol_byte, begins};
+ghost use Rattle.rx_tree.specs.Letters.{is_digit, begins};
+ghost use Rattle.rx_lines.specs.Tokens.{is_name_byte, is_symbol_byte};
 ghost use Rattle.rx_lines.specs.Reader.{without_blanks, string_from, quoted_token, name_at, join_behind, equal_behind, first_token, TokenRead};
 
 use rx_tree::{Oper, OutOfMemory, Text, TokenKind};

@@ -1,4 +1,11 @@
 pub mod Bytes
+pub mod Letters
+pub mod Symbols
+pub mod Strings
+pub mod Marks
+pub mod Comments
+pub mod Pieces
+pub mod Spelling
 pub mod Object
 pub mod Frame
 pub mod World

@@ -1,0 +1,12 @@
+pub mod Prefixes
+pub mod PartLemmas
+pub mod DepthLemmas
+pub mod CommentLemmas
+pub mod TextLemmas
+pub mod MarkLemmas
+pub mod StringLemmas
+pub mod PieceLemmas
+pub mod CutLemmas
+pub mod ScanLemmas
+pub mod SplitLemmas
+pub mod MarkSearchLemmas

@@ -1,0 +1,4 @@
+pub mod Reader
+pub mod Read
+pub mod Depth
+pub mod Scanned

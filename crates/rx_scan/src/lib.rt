@@ -1,0 +1,16 @@
+//! The scanner: the tokens of a source, exactly where some tokens spell it.
+#![tactic(auto)]
+
+mod bytes;
+mod comment;
+mod depth;
+mod digits;
+mod mark;
+mod piece;
+mod place;
+mod scanner;
+mod string;
+mod symbol;
+
+pub use depth::bracket_depth;
+pub use scanner::{LONGEST_SOURCE, ScanRefused, at_most_one_spelling, scan};

@@ -1,0 +1,89 @@
+// Tokens as text, so that the expected ones can be written out.
+use rx_scan::{LONGEST_SOURCE, ScanRefused, scan};
+use rx_tree::{OutOfMemory, Part, Token, TokenKind};
+use std::alloc::{AllocError, Global};
+use std::process::Abort;
+
+fn show_text(shown: &mut Vec<u8>, mark: u8, text: &[u8]) -> Result<(), AllocError> {
+    shown.push(mark)?;
+    shown.extend_from_slice(text)
+}
+
+fn show_parts(shown: &mut Vec<u8>, parts: &[Part]) -> Result<(), AllocError> {
+    for part in parts {
+        match part {
+            Part::Fixed(text) => show_text(shown, b'=', text.bytes())?,
+            Part::Of(text) => show_text(shown, b'$', text.bytes())?,
+        }
+    }
+    Ok(())
+}
+
+// A letter for the kind, and its text; an operator by its name; another token by its spelling.
+fn show_kind(alloc: Global, shown: &mut Vec<u8>, kind: &TokenKind) -> Result<(), AllocError> {
+    match kind {
+        TokenKind::Simple(text) => show_text(shown, b's', text.bytes()),
+        TokenKind::Stem(text) => show_text(shown, b't', text.bytes()),
+        TokenKind::Compound(stem, parts) => {
+            show_text(shown, b'c', stem.bytes())?;
+            show_parts(shown, parts.as_slice())
+        }
+        TokenKind::Constant(text) => show_text(shown, b'n', text.bytes()),
+        TokenKind::Environment(text) => show_text(shown, b'e', text.bytes()),
+        TokenKind::Quoted(text) => show_text(shown, b'q', text.bytes()),
+        TokenKind::Operator(oper) => {
+            let name = format!(in alloc; "{oper:?}")?;
+            shown.extend_from_slice(name.as_bytes())
+        }
+        TokenKind::LeftParen => show_text(shown, b'(', b""),
+        TokenKind::RightParen => show_text(shown, b')', b""),
+        TokenKind::LeftBracket => show_text(shown, b'[', b""),
+        TokenKind::RightBracket => show_text(shown, b']', b""),
+        TokenKind::Comma => show_text(shown, b',', b""),
+        TokenKind::Colon => show_text(shown, b':', b""),
+        TokenKind::TwoColons => show_text(shown, b':', b":"),
+        TokenKind::Period => show_text(shown, b'.', b""),
+        TokenKind::ClauseEnd => show_text(shown, b';', b""),
+    }
+}
+
+// Each token on a line of its own: its line, `_` where a blank stands before it, and its kind.
+fn show_tokens(alloc: Global, tokens: &[Token]) -> Result<Vec<u8>, AllocError> {
+    let mut shown = Vec::new(alloc);
+    for token in tokens {
+        let line = format!(in alloc; "{}", token.line)?;
+        shown.extend_from_slice(line.as_bytes())?;
+        shown.push(if token.blank { b'_' } else { b' ' })?;
+        show_kind(alloc, &mut shown, &token.kind)?;
+        shown.push(b'\n')?;
+    }
+    Ok(shown)
+}
+
+/// The tokens of a source, or the line and number of its refusal.
+pub fn shown(alloc: Global, rt: &impl Abort, source: &[u8]) -> Result<Vec<u8>, OutOfMemory> {
+    assert!(rt; source.len() <= LONGEST_SOURCE);
+    match scan(alloc, source) {
+        Ok(tokens) => Ok(show_tokens(alloc, tokens.as_slice())?),
+        Err(ScanRefused::Bad { line, number }) => {
+            let refusal = format!(in alloc; "line {line} error {number}")?;
+            Ok(refusal.into_bytes())
+        }
+        Err(ScanRefused::OutOfMemory) => Err(OutOfMemory),
+    }
+}
+
+/// That each source is read as what is written beside it.
+pub fn assert_shown(
+    alloc: Global,
+    rt: &impl Abort,
+    cases: &[(&[u8], &[u8])],
+) -> Result<(), AllocError> {
+    for (source, expected) in cases {
+        match shown(alloc, rt, source) {
+            Ok(found) => assert_eq!(rt; found.as_slice(), *expected),
+            Err(OutOfMemory) => return Err(AllocError),
+        }
+    }
+    Ok(())
+}
