@@ -1,11 +1,7 @@
-//! Tests of the scanner and of the texts below it: each form of a token by the tokens that it is read as, and long sources.
+//! Tests of the scanner and of the texts below it: the longest sources, and calls with ample memory.
 #![tactic(auto)]
 
 #[cfg(test)]
-mod forms;
-#[cfg(test)]
 mod long;
-#[cfg(test)]
-mod shown;
 #[cfg(test)]
 mod texts;

@@ -1,8 +1,10 @@
-// Tokens as text, so that the expected ones can be written out.
-use rx_scan::{LONGEST_SOURCE, ScanRefused, scan};
-use rx_tree::{OutOfMemory, Part, Token, TokenKind};
+// The tokens of a source.
+ghost use Rattle.std.specs.Prelude.{◌<◌, ◌^◌, length};
+
+use crate::escape::escape;
+use rx_scan::{LONGEST_SOURCE, ScanRefused, bracket_depth, scan};
+use rx_tree::{Part, Token, TokenKind};
 use std::alloc::{AllocError, Global};
-use std::process::Abort;
 
 fn show_text(shown: &mut Vec<u8>, mark: u8, text: &[u8]) -> Result<(), AllocError> {
     shown.push(mark)?;
@@ -47,43 +49,35 @@ fn show_kind(alloc: Global, shown: &mut Vec<u8>, kind: &TokenKind) -> Result<(),
     }
 }
 
-// Each token on a line of its own: its line, `_` where a blank stands before it, and its kind.
+// Each token with its line, `_` where a blank stands before it, and its kind.
 fn show_tokens(alloc: Global, tokens: &[Token]) -> Result<Vec<u8>, AllocError> {
     let mut shown = Vec::new(alloc);
     for token in tokens {
-        let line = format!(in alloc; "{}", token.line)?;
+        let line = format!(in alloc; "  {}", token.line)?;
         shown.extend_from_slice(line.as_bytes())?;
         shown.push(if token.blank { b'_' } else { b' ' })?;
         show_kind(alloc, &mut shown, &token.kind)?;
-        shown.push(b'\n')?;
     }
     Ok(shown)
 }
 
-/// The tokens of a source, or the line and number of its refusal.
-pub fn shown(alloc: Global, rt: &impl Abort, source: &[u8]) -> Result<Vec<u8>, OutOfMemory> {
-    assert!(rt; source.len() <= LONGEST_SOURCE);
-    match scan(alloc, source) {
-        Ok(tokens) => Ok(show_tokens(alloc, tokens.as_slice())?),
-        Err(ScanRefused::Bad { line, number }) => {
-            let refusal = format!(in alloc; "line {line} error {number}")?;
-            Ok(refusal.into_bytes())
-        }
-        Err(ScanRefused::OutOfMemory) => Err(OutOfMemory),
-    }
+// The tokens as text, with the most brackets that are open at once.
+fn tell_tokens(alloc: Global, tokens: &[Token]) -> Result<String, AllocError>
+    requires { length tokens.now < 2 ^ 32 }
+{
+    let shown = show_tokens(alloc, tokens)?;
+    let shown = escape(alloc, shown.as_slice())?;
+    format!(in alloc; "depth {}:{shown}", bracket_depth(tokens))
 }
 
-/// That each source is read as what is written beside it.
-pub fn assert_shown(
-    alloc: Global,
-    rt: &impl Abort,
-    cases: &[(&[u8], &[u8])],
-) -> Result<(), AllocError> {
-    for (source, expected) in cases {
-        match shown(alloc, rt, source) {
-            Ok(found) => assert_eq!(rt; found.as_slice(), *expected),
-            Err(OutOfMemory) => return Err(AllocError),
-        }
+/// The tokens of a source as text, or why there are none.
+pub fn tell_scan(alloc: Global, source: &[u8]) -> Result<String, AllocError> {
+    if source.len() > LONGEST_SOURCE {
+        return format!(in alloc; "too long");
     }
-    Ok(())
+    match scan(alloc, source) {
+        Ok(tokens) => tell_tokens(alloc, tokens.as_slice()),
+        Err(ScanRefused::Bad { line, number }) => format!(in alloc; "line {line} error {number}"),
+        Err(ScanRefused::OutOfMemory) => Err(AllocError),
+    }
 }
