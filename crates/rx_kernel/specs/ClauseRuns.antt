@@ -2,7 +2,7 @@
 use Rattle.std.specs.Prelude.{◌≡◌, ℕ, List, [], ◌∷◌, ◌++◌, Option, None, Some}
 use Rattle.rx_tree.specs.declared.value.Value.{Value}
 use Rattle.rx_tree.specs.declared.clause.ClauseKind.{ClauseKind}
-use Rattle.rx_tree.specs.declared.clause.ClauseKind.TheVariants.{Say, Assign}
+use Rattle.rx_tree.specs.declared.clause.ClauseKind.TheVariants.{Say, Assign, Nop}
 use Rattle.rx_tree.specs.Object.{Row}
 use Rattle.rx_machine.specs.Variables.{derive, with_row}
 use Rattle.rx_machine.specs.Evaluation.{evaluate_all, Done, Raise}
@@ -12,6 +12,7 @@ use Rattle.rx_machine.specs.Step.{trees_of, line_said}
 abbrev pub said_by : ClauseKind → List Value → List ℕ
 said_by (Say given) values = line_said values
 said_by (Assign name expr) values = []
+said_by Nop values = []
 
 -- the rows of the variables then
 abbrev pub rows_by : ClauseKind → List Value → List Row → List Row

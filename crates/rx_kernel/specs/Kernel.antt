@@ -1,8 +1,8 @@
--- The world that a kernel stands for.
+-- The world that the parts of a run stand for.
 use Rattle.std.specs.Prelude.{drop}
 use Rattle.rx_tree.specs.World.{World}
 use Rattle.rx_kernel.specs.MainWorld.{main_world}
-use Rattle.rx_kernel.specs.declared.kernel.Kernel.TheInside.{Inside}
+use Rattle.rx_kernel.specs.declared.state.State.{State}
 
-abbrev pub world_of : Inside → World
-world_of k = main_world k.program (drop k.at k.program.main.clauses) k.variables k.live k.output.items k.notes.items k.failed k.steps k.budget
+abbrev pub world_of : State → World
+world_of s = main_world s.program (drop s.at s.program.main.clauses) s.variables s.live s.output.items s.notes.items s.failed s.steps s.budget

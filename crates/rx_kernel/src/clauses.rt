@@ -72,5 +72,6 @@ pub fn run_clause(
         }
         ClauseKind::Say(Some(expr)) => say(alloc, variables, output, expr),
         ClauseKind::Assign(Name::Simple(name), expr) => assign(alloc, variables, name, expr),
+        ClauseKind::Nop => Ok(None),
     }
 }

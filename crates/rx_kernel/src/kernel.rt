@@ -5,7 +5,7 @@ ghost use Rattle.rx_machine.specs.Enabled.{enabled, robin};
 ghost use Rattle.rx_machine.specs.Step.{step, Done};
 ghost use Rattle.rx_machine.specs.End.{end, status_of};
 
-use crate::clauses::run_clause;
+use crate::state::State;
 use crate::variables::Variables;
 use rx_machine::End;
 use rx_tree::{Note, OutOfMemory, Package, Steps};
@@ -17,15 +17,7 @@ use std::sync::ledger::Ledger;
 #[derive(Drop)]
 pub struct Kernel {
     alloc: Global,
-    program: Package,
-    at: usize,
-    variables: Variables,
-    live: bool,
-    output: Vec<u8>,
-    notes: Vec<Note>,
-    failed: Option<u8>,
-    steps: u64,
-    budget: u64,
+    state: State,
 }
 
 impl Model for Kernel {
@@ -39,9 +31,9 @@ impl Model for Kernel {
 
     ghost coded = { Prim.hlevel (codes, expr.the_row.coded) };
 
-    ghost view = { world_of };
+    ghost view = { λ k. world_of k.state };
 
-    ghost invariant = { λ k. k.at ≤ length k.program.main.clauses };
+    ghost invariant = { λ k. k.state.at ≤ length k.state.program.main.clauses };
 }
 
 impl Kernel {
@@ -51,15 +43,17 @@ impl Kernel {
     {
         Kernel {
             alloc,
-            program,
-            at: 0,
-            variables: Variables::new(alloc),
-            live: true,
-            output: Vec::new(alloc),
-            notes: Vec::new(alloc),
-            failed: None,
-            steps: 0,
-            budget,
+            state: State {
+                program,
+                at: 0,
+                variables: Variables::new(alloc),
+                live: true,
+                output: Vec::new(alloc),
+                notes: Vec::new(alloc),
+                failed: None,
+                steps: 0,
+                budget,
+            },
         }
     }
 
@@ -67,14 +61,14 @@ impl Kernel {
     pub fn is_enabled(&self, a: u32) -> bool
         ensures { result ≡ enabled self.now a }
     {
-        a == 1 && self.live
+        a == 1 && self.state.live
     }
 
     /// The next enabled activity in a circle, after the one of this number; 0 where none was picked yet.
     pub fn next_enabled(&self, after: u32) -> Option<u32>
         ensures { result ≡ robin self.now after }
     {
-        if self.live { Some(1) } else { None }
+        if self.state.live { Some(1) } else { None }
     }
 
     /// Whether the run goes on, or how it has ended. No clause of the language that runs makes an activity wait.
@@ -82,9 +76,9 @@ impl Kernel {
         ensures end { result ≡ end self.now }
         ensures not_stuck { result ≢ End.Stuck }
     {
-        if !self.live {
+        if !self.state.live {
             End::Finished
-        } else if self.steps < self.budget {
+        } else if self.state.steps < self.state.budget {
             End::Going
         } else {
             End::Spent
@@ -99,30 +93,7 @@ impl Kernel {
         ensures step { OnOk result (step self.old a ≡ Done self.new) }
         ensures looks { looks.new ≡ looks.old }
     {
-        if self.at == self.program.main.clauses.len() {
-            self.live = false;
-        } else {
-            let clause = &self.program.main.clauses.as_slice()[self.at];
-            match run_clause(
-                self.alloc,
-                &mut self.variables,
-                &mut self.output,
-                &clause.kind,
-            )? {
-                None => self.at += 1,
-                Some(number) => {
-                    self.notes.push(Note::Error {
-                        number,
-                        line: clause.line,
-                        activity: 1,
-                    })?;
-                    self.failed = Some(number);
-                    self.live = false;
-                }
-            }
-        }
-        self.steps += 1;
-        Ok(())
+        self.state.step(self.alloc)
     }
 
     /// The status of a run that has ended.
@@ -130,9 +101,9 @@ impl Kernel {
         requires ended { end self.now ≢ End.Going }
         ensures status { result ≡ status_of self.now }
     {
-        if self.live {
+        if self.state.live {
             242
-        } else if self.failed.is_some() {
+        } else if self.state.failed.is_some() {
             249
         } else {
             0
@@ -143,7 +114,7 @@ impl Kernel {
     pub fn activities(&self) -> u32
         ensures { result ≡ length self.now.activities }
     {
-        let _ = &self.live;
+        let _ = &self.state.live;
         1
     }
 
@@ -151,34 +122,34 @@ impl Kernel {
     pub fn steps(&self) -> u64
         ensures { result ≡ self.now.steps }
     {
-        self.steps
+        self.state.steps
     }
 
     /// How many steps may be taken.
     pub fn budget(&self) -> u64
         ensures { result ≡ self.now.budget }
     {
-        self.budget
+        self.state.budget
     }
 
     /// What was said.
     pub fn output(&self) -> &[u8]
         ensures { result.now ≡ self.now.output }
     {
-        self.output.as_slice()
+        self.state.output.as_slice()
     }
 
     /// What was said, where nothing else of the run is wanted any more.
     pub fn into_output(self) -> Vec<u8>
         ensures { result.items ≡ self.output }
     {
-        self.output
+        self.state.output
     }
 
     /// The notes of the report, in order.
     pub fn notes(&self) -> &[Note]
         ensures { result.now ≡ self.now.notes }
     {
-        self.notes.as_slice()
+        self.state.notes.as_slice()
     }
 }

@@ -4,6 +4,7 @@
 mod clauses;
 mod evaluation;
 mod kernel;
+mod state;
 mod variables;
 
 pub use kernel::Kernel;

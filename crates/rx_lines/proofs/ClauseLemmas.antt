@@ -15,7 +15,7 @@ use Rattle.rx_tree.specs.declared.expr.Expr.{Expr}
 use Rattle.rx_tree.specs.declared.expr.Expr.TheVariants as expr
 use Rattle.rx_tree.specs.declared.clause.Clause.{Clause}
 use Rattle.rx_tree.specs.declared.clause.ClauseKind.{ClauseKind}
-use Rattle.rx_tree.specs.declared.clause.ClauseKind.TheVariants.{Say, Assign}
+use Rattle.rx_tree.specs.declared.clause.ClauseKind.TheVariants.{Say, Assign, Nop}
 use Rattle.rx_tree.specs.declared.clause.Body.{Body}
 use Rattle.rx_tree.specs.declared.class.ClassDef.{ClassDef}
 use Rattle.rx_tree.specs.declared.clause.Package.{Package}
@@ -147,6 +147,7 @@ say-is kinds (Some said) fits = ap clause_of fits.1 ∙ said-is fits.0 said fits
 pub fits-is : (kinds : List TokenKind) (kind : ClauseKind) → Fits kinds kind → clause_of kinds ≡ Some kind
 fits-is kinds (Say given) fits = say-is kinds given fits
 fits-is kinds (Assign (name.Simple text) value) fits = ap clause_of fits.1 ∙ ap (assign_with text) (expr-is fits.0 value fits.2)
+fits-is kinds Nop fits = ap clause_of fits
 
 equal-is : (sign : TokenKind) → is_equal sign ≡ true → sign ≡ token.Operator Equal
 equal-is (token.Operator Equal) is = refl
@@ -195,12 +196,25 @@ by-sign text sign behind kind false tested is =
     cond-some (bytes_eq text (codes "SAY")) (say_with (expr_of (sign ∷ behind))) kind is in
     says-fits text (sign ∷ behind) kind says.0 says.1
 
-named-fits : (text : List ℕ) (behind : List TokenKind) (kind : ClauseKind) → named_clause text behind ≡ Some kind → Fits (token.Simple text ∷ behind) kind
-named-fits text [] kind is =
-    let says : (bytes_eq text (codes "SAY") ≡ true) × (Some (Say None) ≡ Some kind) = cond-some (bytes_eq text (codes "SAY")) (Some (Say None)) kind is in
-    let same : text ≡ codes "SAY" = (bytes_eq-Decides text (codes "SAY")).0 says.0 in
+-- NOP alone
+nop-fits : (text : List ℕ) (kind : ClauseKind) → cond (bytes_eq text (codes "NOP")) (Some Nop) None ≡ Some kind → Fits (token.Simple text ∷ []) kind
+nop-fits text kind is =
+    let nops : (bytes_eq text (codes "NOP") ≡ true) × (Some Nop ≡ Some kind) = cond-some (bytes_eq text (codes "NOP")) (Some Nop) kind is in
+    let same : text ≡ codes "NOP" = (bytes_eq-Decides text (codes "NOP")).0 nops.0 in
     subst (λ (xs : List ℕ). Fits (token.Simple xs ∷ []) kind) (sym same)
-    (subst (λ (k : ClauseKind). Fits (token.Simple (codes "SAY") ∷ []) k) (some-is (Say None) kind says.1) refl)
+    (subst (λ (k : ClauseKind). Fits (token.Simple (codes "NOP") ∷ []) k) (some-is Nop kind nops.1) refl)
+
+-- SAY or NOP alone
+word-fits : (text : List ℕ) (kind : ClauseKind) (says : Bool) → bytes_eq text (codes "SAY") ≡ says
+    → cond says (Some (Say None)) (cond (bytes_eq text (codes "NOP")) (Some Nop) None) ≡ Some kind → Fits (token.Simple text ∷ []) kind
+word-fits text kind false tested is = nop-fits text kind is
+word-fits text kind true tested is =
+    let same : text ≡ codes "SAY" = (bytes_eq-Decides text (codes "SAY")).0 tested in
+    subst (λ (xs : List ℕ). Fits (token.Simple xs ∷ []) kind) (sym same)
+    (subst (λ (k : ClauseKind). Fits (token.Simple (codes "SAY") ∷ []) k) (some-is (Say None) kind is) refl)
+
+named-fits : (text : List ℕ) (behind : List TokenKind) (kind : ClauseKind) → named_clause text behind ≡ Some kind → Fits (token.Simple text ∷ behind) kind
+named-fits text [] kind is = word-fits text kind (bytes_eq text (codes "SAY")) refl is
 named-fits text (sign ∷ behind) kind is = by-sign text sign behind kind (is_equal sign) refl is
 
 -- What the reader takes is a clause of the tokens.

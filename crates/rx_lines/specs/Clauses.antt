@@ -9,7 +9,7 @@ use Rattle.rx_tree.specs.declared.name.Name.TheVariants as name
 use Rattle.rx_tree.specs.declared.expr.Expr.{Expr}
 use Rattle.rx_tree.specs.declared.expr.Expr.TheVariants as expr
 use Rattle.rx_tree.specs.declared.clause.ClauseKind.{ClauseKind}
-use Rattle.rx_tree.specs.declared.clause.ClauseKind.TheVariants.{Say, Assign}
+use Rattle.rx_tree.specs.declared.clause.ClauseKind.TheVariants.{Say, Assign, Nop}
 use Rattle.rx_lines.specs.Tokens.{Spells}
 
 -- An operand is a string, which is a constant, or the name of a variable.
@@ -42,9 +42,10 @@ abbrev pub FitsSay : List TokenKind → Option Expr → Type 0
 FitsSay kinds None = kinds ≡ token.Simple (codes "SAY") ∷ []
 FitsSay kinds (Some said) = (behind : List TokenKind) × (kinds ≡ token.Simple (codes "SAY") ∷ behind) × FitsExpr behind said
 
--- These are the tokens of a clause: one of `say`, or a name, `=` and an expression, also where the name is SAY.
+-- These are the tokens of a clause: one of `say`, or `nop` alone, or a name, `=` and an expression, whatever the name is.
 abbrev pub Fits : List TokenKind → ClauseKind → Type 0
 Fits kinds (Say given) = FitsSay kinds given
+Fits kinds Nop = kinds ≡ token.Simple (codes "NOP") ∷ []
 Fits kinds (Assign (name.Simple text) value) =
     (behind : List TokenKind) × (kinds ≡ token.Simple text ∷ (token.Operator Equal ∷ behind)) × FitsExpr behind value
 

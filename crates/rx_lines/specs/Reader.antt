@@ -13,7 +13,7 @@ use Rattle.rx_tree.specs.declared.name.Name.TheVariants as name
 use Rattle.rx_tree.specs.declared.expr.Expr.{Expr}
 use Rattle.rx_tree.specs.declared.expr.Expr.TheVariants.{Const, Name}
 use Rattle.rx_tree.specs.declared.clause.ClauseKind.{ClauseKind}
-use Rattle.rx_tree.specs.declared.clause.ClauseKind.TheVariants.{Say, Assign}
+use Rattle.rx_tree.specs.declared.clause.ClauseKind.TheVariants.{Say, Assign, Nop}
 use Rattle.rx_lines.specs.Clauses.{chained}
 use Rattle.rx_tree.specs.Letters.{is_blank, is_digit, begins}
 use Rattle.rx_lines.specs.Tokens.{is_name_byte, is_symbol_byte, Spells}
@@ -126,9 +126,13 @@ abbrev pub is_equal : TokenKind → Bool
 is_equal (Operator Equal) = true
 is_equal _ = false
 
+-- the clause of a name alone
+abbrev pub word_clause : List ℕ → Option ClauseKind
+word_clause text = cond (bytes_eq text (codes "SAY")) (Some (Say None)) (cond (bytes_eq text (codes "NOP")) (Some Nop) None)
+
 -- the clause that begins with a name
 abbrev pub named_clause : List ℕ → List TokenKind → Option ClauseKind
-named_clause text [] = cond (bytes_eq text (codes "SAY")) (Some (Say None)) None
+named_clause text [] = word_clause text
 named_clause text (kind ∷ kinds) =
     cond (is_equal kind) (assign_with text (expr_of kinds)) (cond (bytes_eq text (codes "SAY")) (say_with (expr_of (kind ∷ kinds))) None)
 

@@ -1,10 +1,23 @@
 // The clause of a line's tokens.
 ghost use Rattle.std.specs.Prelude.{◌≡◌, IfOk};
-ghost use Rattle.rx_lines.specs.Reader.{named_clause, clause_of};
+ghost use Rattle.rx_lines.specs.Reader.{word_clause, named_clause, clause_of};
 
 use crate::expr::read_expr;
 use rx_tree::{ClauseKind, Name, Oper, OutOfMemory, Text, TokenKind};
 use std::alloc::Global;
+
+// The clause of a name alone.
+fn word_clause(name: &Text) -> Option<ClauseKind>
+    ensures { result ≡ word_clause name.now }
+{
+    if name.bytes() == b"SAY".as_slice() {
+        Some(ClauseKind::Say(None))
+    } else if name.bytes() == b"NOP".as_slice() {
+        Some(ClauseKind::Nop)
+    } else {
+        None
+    }
+}
 
 // The clause that begins with a name, by the tokens behind it.
 fn read_named(
@@ -20,11 +33,11 @@ fn read_named(
         };
         return Ok(Some(ClauseKind::Assign(Name::Simple(name.share()?), value)));
     }
+    if behind.is_empty() {
+        return Ok(word_clause(name));
+    }
     if name.bytes() != b"SAY".as_slice() {
         return Ok(None);
-    }
-    if behind.is_empty() {
-        return Ok(Some(ClauseKind::Say(None)));
     }
     match read_expr(alloc, behind)? {
         Some(said) => Ok(Some(ClauseKind::Say(Some(said)))),

@@ -4,7 +4,7 @@ use Rattle.std.specs.Prelude.{IsTrue}
 use Rattle.rx_tree.specs.declared.value.Value.{Value}
 use Rattle.rx_tree.specs.declared.clause.Clause.{Clause}
 use Rattle.rx_tree.specs.declared.clause.ClauseKind.{ClauseKind}
-use Rattle.rx_tree.specs.declared.clause.ClauseKind.TheVariants.{Say, Assign}
+use Rattle.rx_tree.specs.declared.clause.ClauseKind.TheVariants.{Say, Assign, Nop}
 use Rattle.rx_tree.specs.Frame.{Frame, Todo, Whole, Partly}
 use Rattle.rx_tree.specs.World.{World, Activity}
 use Rattle.rx_machine.specs.Enabled.{activity_at, enabled}
@@ -35,6 +35,7 @@ finish-with : (more : List (List ℕ)) (ended : Bool) (w : World) (a : ℕ) (act
     → finish (with_more more ended w) a activity frame frames kind values ≡ with_more more ended (finish w a activity frame frames kind values)
 finish-with more ended w a activity frame frames (Say given) values = refl
 finish-with more ended w a activity frame frames (Assign name expr) values = refl
+finish-with more ended w a activity frame frames Nop values = refl
 
 settle-with : (more : List (List ℕ)) (ended : Bool) (w : World) (a : ℕ) (activity : Activity) (frame : Frame) (frames : List Frame) (clause : Clause) (evaluated : AllEvaluated)
     → settle (with_more more ended w) a activity frame frames clause evaluated ≡ with_more more ended (settle w a activity frame frames clause evaluated)

@@ -6,7 +6,7 @@ use Rattle.rx_tree.specs.declared.note.Note.TheVariants.{Error}
 use Rattle.rx_tree.specs.declared.value.Value.{Value}
 use Rattle.rx_tree.specs.declared.clause.Clause.{Clause}
 use Rattle.rx_tree.specs.declared.clause.ClauseKind.{ClauseKind}
-use Rattle.rx_tree.specs.declared.clause.ClauseKind.TheVariants.{Say, Assign}
+use Rattle.rx_tree.specs.declared.clause.ClauseKind.TheVariants.{Say, Assign, Nop}
 use Rattle.rx_tree.specs.Frame.{Frame, Todo, Whole, Partly}
 use Rattle.rx_tree.specs.World.{World, Activity}
 use Rattle.rx_machine.specs.Enabled.{activity_at}
@@ -109,6 +109,7 @@ finish-row w a activity frame frames (Say given) values = record {
   unread = refl;
 }
 finish-row w a activity frame frames (Assign name expr) values = with_top-row w a activity (assigned frame (Assign name expr) values) frames
+finish-row w a activity frame frames Nop values = with_top-row w a activity frame frames
 
 settle-row : (w : World) (a : ℕ) (activity : Activity) (frame : Frame) (frames : List Frame) (clause : Clause) (evaluated : AllEvaluated)
     → IsRow w (settle w a activity frame frames clause evaluated)

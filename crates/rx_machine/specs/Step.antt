@@ -4,7 +4,7 @@ use Rattle.rx_tree.specs.declared.value.Value.{Value}
 use Rattle.rx_tree.specs.declared.expr.Expr.{Expr}
 use Rattle.rx_tree.specs.declared.clause.Clause.{Clause}
 use Rattle.rx_tree.specs.declared.clause.ClauseKind.{ClauseKind}
-use Rattle.rx_tree.specs.declared.clause.ClauseKind.TheVariants.{Say, Assign}
+use Rattle.rx_tree.specs.declared.clause.ClauseKind.TheVariants.{Say, Assign, Nop}
 use Rattle.rx_tree.specs.Frame.{Frame, Todo, Whole, Partly}
 use Rattle.rx_tree.specs.World.{World, Activity, Over}
 use Rattle.rx_machine.specs.Enabled.{activity_at, with_activity}
@@ -39,6 +39,7 @@ abbrev pub trees_of : ClauseKind → List Expr
 trees_of (Say None) = []
 trees_of (Say (Some expr)) = expr ∷ []
 trees_of (Assign name expr) = expr ∷ []
+trees_of Nop = []
 
 -- what SAY writes: the string of its expression's value, if it has one, and a line feed
 abbrev pub line_said : List Value → List ℕ
@@ -55,6 +56,7 @@ assigned frame _ _ = frame
 abbrev pub finish : World → ℕ → Activity → Frame → List Frame → ClauseKind → List Value → World
 finish w a activity frame frames (Say given) values = record (with_top w a activity frame frames) { output = w.output ++ line_said values }
 finish w a activity frame frames (Assign name expr) values = with_top w a activity (assigned frame (Assign name expr) values) frames
+finish w a activity frame frames Nop values = with_top w a activity frame frames
 
 -- A clause whose expressions have come to this: it is finished, or the error is raised at its line.
 abbrev pub settle : World → ℕ → Activity → Frame → List Frame → Clause → AllEvaluated → World

@@ -3,7 +3,6 @@ use Rattle.std.specs.Prelude.{◌≡◌, ℕ, Bool, false, ◌||◌, List, [], �
 use Rattle.std.specs.Str.{bytes_eq}
 use Rattle.rx_tree.specs.declared.token.TokenKind.{TokenKind}
 use Rattle.rx_tree.specs.declared.token.TokenKind.TheVariants.{Operator, LeftParen, RightParen, LeftBracket, RightBracket, Comma, Colon, TwoColons}
-use Rattle.rx_tree.specs.declared.token.Oper.{Oper}
 use Rattle.rx_tree.specs.declared.token.Oper.TheVariants as o
 
 -- the marks, each with its token

@@ -12,6 +12,8 @@ pub enum ClauseKind {
     Say(Option<Expr>),
     /// The assignment of an expression's value to a variable.
     Assign(Name, Expr),
+    /// `NOP`, which does nothing.
+    Nop,
 }
 
 /// A clause, with the line of the source that it begins on, from 1.
