@@ -5,7 +5,7 @@ top=$(cd "$(dirname "$0")" && pwd) || exit 1
 program=$top/crates/rx_cli/out/rx_cli
 
 # The crates that the program stands on, itself included.
-crates='rx_ports rx_text rx_whole rx_tree rx_machine rx_lines rx_kernel rx_top rx_cli'
+crates='rx_ports rx_text rx_whole rx_tree rx_machine rx_lines rx_store rx_kernel rx_top rx_cli'
 
 is_built() {
     [ -x "$program" ] || return 1

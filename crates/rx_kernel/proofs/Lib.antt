@@ -1,5 +1,13 @@
+pub mod Lists
 pub mod Results
-pub mod RowLemmas
-pub mod EvaluationLemmas
-pub mod ClauseLemmas
-pub mod MainLemmas
+pub mod JoinLemmas
+pub mod SettleLemmas
+pub mod EndLemmas
+pub mod FirstLemmas
+pub mod ArgumentLemmas
+pub mod StoreLemmas
+pub mod StepLemmas
+pub mod HoldLemmas
+pub mod ScanLemmas
+pub mod TurnLemmas
+pub mod KernelLemmas

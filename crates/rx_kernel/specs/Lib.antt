@@ -1,5 +1,10 @@
-pub mod MainWorld
-pub mod Kernel
-pub mod Rows
-pub mod ClauseRuns
-pub mod Terms
+pub mod Frames
+pub mod Computing
+pub mod Joining
+pub mod Settling
+pub mod Worlds
+pub mod Methods
+pub mod Firsts
+pub mod Stores
+pub mod Activities
+pub mod States

@@ -1,10 +1,24 @@
 //! The kernel: the activity machine as a program. Contracts see it as its world.
 #![tactic(auto)]
 
-mod clauses;
-mod evaluation;
+mod activity;
+mod assigning;
+mod buffer;
+mod callers;
+mod computed;
+mod computing;
+mod endings;
+mod finishing;
+mod frame;
+mod joining;
 mod kernel;
+mod methods;
+mod operands;
+mod parts;
+mod sending;
 mod state;
-mod variables;
+mod stepping;
+mod turns;
+mod waiting;
 
 pub use kernel::Kernel;

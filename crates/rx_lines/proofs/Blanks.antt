@@ -1,5 +1,5 @@
 -- Blanks at the front of some bytes.
-use Rattle.std.proofs.Common.{◌≡◌, ℕ, Bool, true, false, cond, ◌&&◌, List, [], ◌∷◌, ◌++◌, refl, sym, ◌∙◌, ap}
+use Rattle.std.proofs.Common.{◌≡◌, ◌≤◌, suc, length, arith, ℕ, Bool, true, false, cond, ◌&&◌, List, [], ◌∷◌, ◌++◌, refl, sym, ◌∙◌, ap}
 use Rattle.std.proofs.lemmas.List.{append-nil}
 use Rattle.std.specs.Cmp.{first_so, second_so}
 use Rattle.std.specs.List.{list_all}
@@ -52,16 +52,11 @@ all-blank bytes none =
     let split : HasBlanks bytes = has-blanks bytes in
     ap (list_all is_blank) (split.is ∙ ap (λ xs. split.blanks ++ xs) none ∙ append-nil split.blanks) ∙ split.are_blanks
 
--- without them no blank stands at the front
-front_not_blank : (b : ℕ) (bytes : List ℕ) (blank : Bool) → is_blank b ≡ blank
-    → without_blanks (without_blanks bytes) ≡ without_blanks bytes → without_blanks (without_blanks (b ∷ bytes)) ≡ without_blanks (b ∷ bytes)
-front_not_blank b bytes true is rest =
-    let same : without_blanks (b ∷ bytes) ≡ without_blanks bytes = ap (λ t. cond t (without_blanks bytes) (b ∷ bytes)) is in
-    ap without_blanks same ∙ rest ∙ sym same
-front_not_blank b bytes false is rest =
-    let same : without_blanks (b ∷ bytes) ≡ b ∷ bytes = ap (λ t. cond t (without_blanks bytes) (b ∷ bytes)) is in
-    ap without_blanks same
+blank-length : (b : ℕ) (bytes : List ℕ) (blank : Bool) → length (without_blanks bytes) ≤ length bytes
+    → length (cond blank (without_blanks bytes) (b ∷ bytes)) ≤ length (b ∷ bytes)
+blank-length b bytes true rest = let more : length (b ∷ bytes) ≡ suc (length bytes) = refl in omega arith
+blank-length b bytes false rest = omega arith
 
-pub without_blanks-twice : (bytes : List ℕ) → without_blanks (without_blanks bytes) ≡ without_blanks bytes
-without_blanks-twice [] = refl
-without_blanks-twice (b ∷ bytes) = front_not_blank b bytes (is_blank b) refl (without_blanks-twice bytes)
+pub without_blanks-length : (bytes : List ℕ) → length (without_blanks bytes) ≤ length bytes
+without_blanks-length [] = omega arith
+without_blanks-length (b ∷ bytes) = blank-length b bytes (is_blank b) (without_blanks-length bytes)

@@ -1,411 +1,354 @@
--- The reader's clauses are what `Fits` and `AreClauses` mean.
-use Rattle.std.proofs.Common.{◌≡◌, ◌<◌, ◌≤◌, get_or, add-one, inl, inr, ◌+◌, ℕ, suc, Bool, true, false, cond, List, [], ◌∷◌, ◌++◌, Option, None, Some, length, drop, refl, sym, ◌∙◌, ap, subst, append_assoc}
+-- The reader's clauses are what `Fits` means.
+use Rattle.std.proofs.Common.{◌≡◌, ℕ, Bool, true, false, cond, not, List, [], ◌∷◌, Option, None, Some, option_map, map, refl, sym, ◌∙◌, ap, subst}
 use Rattle.std.specs.Prelude.{codes}
-use Rattle.std.proofs.lemmas.List.{append-nil}
 use Rattle.std.specs.Str.{bytes_eq}
-use Rattle.std.specs.Str.Lines.{lines}
+use Rattle.std.specs.Cmp.{first_so, second_so}
 use Rattle.std.proofs.lemmas.Slice.Eq.{bytes_eq-Decides}
-use Rattle.rx_tree.specs.declared.token.Oper.{Oper}
-use Rattle.rx_tree.specs.declared.token.Oper.TheVariants.{Concat, Equal}
+use Rattle.rx_tree.specs.declared.token.Oper.TheVariants.{Equal}
 use Rattle.rx_tree.specs.declared.token.TokenKind.{TokenKind}
 use Rattle.rx_tree.specs.declared.token.TokenKind.TheVariants as token
-use Rattle.rx_tree.specs.declared.value.Value.TheVariants.{Str}
+use Rattle.rx_tree.specs.declared.name.Name.{Name}
 use Rattle.rx_tree.specs.declared.name.Name.TheVariants as name
+use Rattle.rx_tree.specs.declared.expr.Operand.{Operand}
+use Rattle.rx_tree.specs.declared.expr.SendPart.{SendPart}
+use Rattle.rx_tree.specs.declared.expr.Term.{Term}
 use Rattle.rx_tree.specs.declared.expr.Expr.{Expr}
-use Rattle.rx_tree.specs.declared.expr.Expr.TheVariants as expr
-use Rattle.rx_tree.specs.declared.clause.Clause.{Clause}
 use Rattle.rx_tree.specs.declared.clause.ClauseKind.{ClauseKind}
-use Rattle.rx_tree.specs.declared.clause.ClauseKind.TheVariants.{Say, Assign, Nop}
-use Rattle.rx_tree.specs.declared.clause.Body.{Body}
-use Rattle.rx_tree.specs.declared.class.ClassDef.{ClassDef}
-use Rattle.rx_tree.specs.declared.clause.Package.{Package}
-use Rattle.rx_lines.specs.Tokens.{Spells}
-use Rattle.rx_lines.specs.Clauses.{FitsOperand, FitsOperands, FitsExpr, FitsSay, Fits, IsClause, chained}
-use Rattle.rx_lines.specs.Programs.{AreClauses, IsProgram, kind_of, line_of}
-use Rattle.rx_lines.specs.Reader.{operand_of, is_concat, with_operand, operands_of, expr_with, expr_of, say_with, assign_with, is_equal, named_clause, clause_of, first_token, without_blanks, AreTokens, HasNoTokens}
-use Rattle.std.proofs.Math.Seq.{drop-cons}
-use Rattle.std.proofs.Math.ListN.{drop_of_length-le}
-use Rattle.rx_lines.specs.declared.program.Line.{Line}
-use Rattle.rx_lines.specs.LineRead.{IsLineRead, HasNoClauses}
-use Rattle.rx_lines.proofs.Blanks.{without_blanks-all}
-use Rattle.rx_lines.proofs.SpellLemmas.{Comes, spells-comes}
+use Rattle.rx_tree.specs.declared.clause.ClauseKind.TheVariants.{Say, Assign, Nop, Return, Expose, UseArg, Message}
+use Rattle.rx_lines.specs.Names.{is_in, keywords}
+use Rattle.rx_lines.specs.Clauses.{FitsOperand, FitsSends, FitsTerm, FitsJoined, FitsExpr, FitsWord, named, listed, FitsExpose, FitsUse, begins_keyword, FitsMessage, Fits}
+use Rattle.rx_lines.specs.Conditions.{has_none}
+use Rattle.rx_lines.specs.ClauseReader.{is_equal, is_comma, is_word, name_of, expr_of, given_of, say_with, return_with, assign_with, nop_of, with_name, names_of, listed_of, expose_with, use_with, args_of, use_of, is_message, message_with, other_clause, word_clause, named_clause, clause_by, clause_of}
+use Rattle.rx_lines.proofs.ExprLemmas.{some-is, either-way, cond-some, comma-is, name-is, expr-is, is-expr, term-alone}
 
--- two values of which the options are one
-some-is : {A : Type 0} (x y : A) → Some x ≡ Some y → x ≡ y
-some-is x y is = cc
+pub bytes-same : (text word : List ℕ) → bytes_eq text word ≡ true → text ≡ word
+bytes-same text word tested = (bytes_eq-Decides text word).0 tested
 
--- Operands and expressions.
-
-operand-is : (kind : TokenKind) (operand : Expr) → FitsOperand kind operand → operand_of kind ≡ Some operand
-operand-is (token.Quoted text) operand fits = ap Some (sym fits)
-operand-is (token.Simple text) operand fits = ap Some (sym fits)
-operand-is _ operand fits = absurd fits
-
-is-operand : (kind : TokenKind) (operand : Expr) → operand_of kind ≡ Some operand → FitsOperand kind operand
-is-operand (token.Quoted text) operand is = some-is operand (expr.Const (Str text)) (sym is)
-is-operand (token.Simple text) operand is = some-is operand (expr.Name (name.Simple text)) (sym is)
-is-operand _ operand is = cc
-
-operands-is : (kinds : List TokenKind) (operands : List (Oper × Expr)) → FitsOperands kinds operands → operands_of kinds ≡ Some operands
-operands-is [] operands fits = ap Some (sym fits)
-operands-is (sign ∷ []) operands fits = absurd fits
-operands-is (sign ∷ (kind ∷ kinds)) operands fits =
-    ap (λ s. cond (is_concat s) (with_operand (operand_of kind) (operands_of kinds)) None) fits.3
-    ∙ ap (λ o. with_operand o (operands_of kinds)) (operand-is kind fits.0 fits.4)
-    ∙ ap (λ o. with_operand (Some fits.0) o) (operands-is kinds fits.1 fits.5)
-    ∙ ap Some (sym fits.2)
-
-concat-is : (sign : TokenKind) → is_concat sign ≡ true → sign ≡ token.Operator Concat
-concat-is (token.Operator Concat) is = refl
-concat-is _ is = cc
-
--- the parts of operands that were read
-record HasOperands (found : Option Expr) (behind : Option (List (Oper × Expr))) (operands : List (Oper × Expr)) : Type 0 where
-  pub operand : Expr
-  pub others : List (Oper × Expr)
-  pub first : found ≡ Some operand
-  pub rest : behind ≡ Some others
-  pub is : operands ≡ (Concat, operand) ∷ others
-
-has-operands : (found : Option Expr) (behind : Option (List (Oper × Expr))) (operands : List (Oper × Expr))
-    → with_operand found behind ≡ Some operands → HasOperands found behind operands
-has-operands None behind operands is = cc
-has-operands (Some operand) None operands is = cc
-has-operands (Some operand) (Some others) operands is =
-    record { operand = operand; others = others; first = refl; rest = refl; is = some-is operands ((Concat, operand) ∷ others) (sym is) }
-
-cond-some : {A : Type 0} (t : Bool) (x : Option A) (y : A) → cond t x None ≡ Some y → (t ≡ true) × (x ≡ Some y)
-cond-some true x y is = (refl, is)
-cond-some false x y is = cc
-
-is-operands : (kinds : List TokenKind) (operands : List (Oper × Expr)) → operands_of kinds ≡ Some operands → FitsOperands kinds operands
-is-operands [] operands is = some-is operands [] (sym is)
-is-operands (sign ∷ []) operands is = cc
-is-operands (sign ∷ (kind ∷ kinds)) operands is =
-    let tested : (is_concat sign ≡ true) × (with_operand (operand_of kind) (operands_of kinds) ≡ Some operands) =
-    cond-some (is_concat sign) (with_operand (operand_of kind) (operands_of kinds)) operands is in
-    let parts : HasOperands (operand_of kind) (operands_of kinds) operands = has-operands (operand_of kind) (operands_of kinds) operands tested.1 in (
-      parts.operand,
-      parts.others,
-      parts.is,
-      concat-is sign tested.0,
-      is-operand kind parts.operand parts.first,
-      is-operands kinds parts.others parts.rest,
-    )
-
-expr-is : (kinds : List TokenKind) (tree : Expr) → FitsExpr kinds tree → expr_of kinds ≡ Some tree
-expr-is [] tree fits = absurd fits
-expr-is (kind ∷ kinds) tree fits =
-    ap (λ o. expr_with o (operands_of kinds)) (operand-is kind fits.0 fits.2)
-    ∙ ap (λ o. expr_with (Some fits.0) o) (operands-is kinds fits.1 fits.3)
-    ∙ ap Some (sym fits.4)
-
--- the parts of an expression that was read
-record HasParts (found : Option Expr) (behind : Option (List (Oper × Expr))) (tree : Expr) : Type 0 where
-  pub operand : Expr
-  pub operands : List (Oper × Expr)
-  pub first : found ≡ Some operand
-  pub rest : behind ≡ Some operands
-  pub is : tree ≡ chained operand operands
-
-has-parts : (found : Option Expr) (behind : Option (List (Oper × Expr))) (tree : Expr) → expr_with found behind ≡ Some tree → HasParts found behind tree
-has-parts None behind tree is = cc
-has-parts (Some operand) None tree is = cc
-has-parts (Some operand) (Some operands) tree is =
-    record { operand = operand; operands = operands; first = refl; rest = refl; is = some-is tree (chained operand operands) (sym is) }
-
-is-expr : (kinds : List TokenKind) (tree : Expr) → expr_of kinds ≡ Some tree → FitsExpr kinds tree
-is-expr [] tree is = cc
-is-expr (kind ∷ kinds) tree is =
-    let parts : HasParts (operand_of kind) (operands_of kinds) tree = has-parts (operand_of kind) (operands_of kinds) tree is in (
-      parts.operand,
-      parts.operands,
-      is-operand kind parts.operand parts.first,
-      is-operands kinds parts.operands parts.rest,
-      parts.is,
-    )
-
--- Clauses.
-
--- an expression doesn't begin with `=`
-no-equal-sign : (kind : TokenKind) (operand : Expr) → FitsOperand kind operand → is_equal kind ≡ false
-no-equal-sign (token.Quoted text) operand fits = refl
-no-equal-sign (token.Simple text) operand fits = refl
-no-equal-sign _ operand fits = absurd fits
-
-said-is : (behind : List TokenKind) (said : Expr) → FitsExpr behind said → clause_of (token.Simple (codes "SAY") ∷ behind) ≡ Some (Say (Some said))
-said-is [] said fits = absurd fits
-said-is (kind ∷ kinds) said fits =
-    ap (λ t. cond t (assign_with (codes "SAY") (expr_of kinds)) (say_with (expr_of (kind ∷ kinds)))) (no-equal-sign kind fits.0 fits.2)
-    ∙ ap say_with (expr-is (kind ∷ kinds) said fits)
-
-say-is : (kinds : List TokenKind) (given : Option Expr) → FitsSay kinds given → clause_of kinds ≡ Some (Say given)
-say-is kinds None fits = ap clause_of fits
-say-is kinds (Some said) fits = ap clause_of fits.1 ∙ said-is fits.0 said fits.2
-
--- Tokens of a clause are read as it.
-pub fits-is : (kinds : List TokenKind) (kind : ClauseKind) → Fits kinds kind → clause_of kinds ≡ Some kind
-fits-is kinds (Say given) fits = say-is kinds given fits
-fits-is kinds (Assign (name.Simple text) value) fits = ap clause_of fits.1 ∙ ap (assign_with text) (expr-is fits.0 value fits.2)
-fits-is kinds Nop fits = ap clause_of fits
+-- the token is a name that was tested
+pub word-is : (word : List ℕ) (kind : TokenKind) → is_word word kind ≡ true → kind ≡ token.Simple word
+word-is word (token.Simple text) tested = ap (λ xs. token.Simple xs) (bytes-same text word tested)
+word-is word _ tested = cc
 
 equal-is : (sign : TokenKind) → is_equal sign ≡ true → sign ≡ token.Operator Equal
 equal-is (token.Operator Equal) is = refl
 equal-is _ is = cc
 
-record HasValue (found : Option Expr) (text : List ℕ) (kind : ClauseKind) : Type 0 where
-  pub value : Expr
-  pub first : found ≡ Some value
-  pub is : Assign (name.Simple text) value ≡ kind
+no-equal : (kind : TokenKind) (operand : Operand) → FitsOperand kind operand → is_equal kind ≡ false
+no-equal (token.Quoted text) operand fits = refl
+no-equal (token.Simple text) operand fits = refl
+no-equal (token.Environment text) operand fits = refl
+no-equal _ operand fits = absurd fits
 
-has-value : (found : Option Expr) (text : List ℕ) (kind : ClauseKind) → assign_with text found ≡ Some kind → HasValue found text kind
-has-value None text kind is = cc
-has-value (Some value) text kind is = record { value = value; first = refl; is = some-is _ _ is }
+-- Tokens of a clause are read as it.
 
-record HasSaid (found : Option Expr) (kind : ClauseKind) : Type 0 where
-  pub said : Expr
-  pub first : found ≡ Some said
-  pub is : Say (Some said) ≡ kind
+-- no assignment, where an expression stands behind the name
+word-before : (text : List ℕ) (behind : List TokenKind) (expr : Expr) → FitsExpr behind expr → named_clause text behind ≡ word_clause text behind
+word-before text [] expr fits = refl
+word-before text (kind ∷ kinds) expr fits =
+    let same : kind ∷ kinds ≡ fits.first.kind ∷ fits.first.behind = fits.first.is in
+    let first : kind ≡ fits.first.kind = cc in
+    ap (λ t. cond t (assign_with text (expr_of kinds)) (word_clause text (kind ∷ kinds)))
+    (ap is_equal first ∙ no-equal fits.first.kind expr.first.operand fits.first.operand)
 
-has-said : (found : Option Expr) (kind : ClauseKind) → say_with found ≡ Some kind → HasSaid found kind
-has-said None kind is = cc
-has-said (Some said) kind is = record { said = said; first = refl; is = some-is _ _ is }
+given-is : (behind : List TokenKind) (expr : Expr) → FitsExpr behind expr → given_of behind ≡ Some (Some expr)
+given-is [] expr fits = let none : [] ≡ fits.first.kind ∷ fits.first.behind = fits.first.is in cc
+given-is (kind ∷ kinds) expr fits = ap (λ e. option_map (λ x. Some x) e) (expr-is (kind ∷ kinds) expr fits)
 
--- SAY with what stands behind it
-says-fits : (text : List ℕ) (behind : List TokenKind) (kind : ClauseKind) → bytes_eq text (codes "SAY") ≡ true
-    → say_with (expr_of behind) ≡ Some kind → Fits (token.Simple text ∷ behind) kind
-says-fits text behind kind tested is =
-    let same : text ≡ codes "SAY" = (bytes_eq-Decides text (codes "SAY")).0 tested in
-    let parts : HasSaid (expr_of behind) kind = has-said (expr_of behind) kind is in
-    subst (λ (xs : List ℕ). Fits (token.Simple xs ∷ behind) kind) (sym same)
-    (subst (λ (k : ClauseKind). Fits (token.Simple (codes "SAY") ∷ behind) k) parts.is (behind, refl, is-expr behind parts.said parts.first))
+say-is : (kinds : List TokenKind) (given : Option Expr) → FitsWord (codes "SAY") kinds given → clause_of kinds ≡ Some (Say given)
+say-is kinds None fits = ap clause_of fits
+say-is kinds (Some expr) fits =
+    ap clause_of fits.1 ∙ word-before (codes "SAY") fits.0 expr fits.2 ∙ ap say_with (given-is fits.0 expr fits.2)
 
-assigns-fits : (text : List ℕ) (sign : TokenKind) (behind : List TokenKind) (kind : ClauseKind) → is_equal sign ≡ true
-    → assign_with text (expr_of behind) ≡ Some kind → Fits (token.Simple text ∷ (sign ∷ behind)) kind
-assigns-fits text sign behind kind tested is =
-    let parts : HasValue (expr_of behind) text kind = has-value (expr_of behind) text kind is in
-    subst (λ (t : TokenKind). Fits (token.Simple text ∷ (t ∷ behind)) kind) (sym (equal-is sign tested))
-    (subst (λ (k : ClauseKind). Fits (token.Simple text ∷ (token.Operator Equal ∷ behind)) k) parts.is (behind, refl, is-expr behind parts.value parts.first))
+return-is : (kinds : List TokenKind) (given : Option Expr) → FitsWord (codes "RETURN") kinds given → clause_of kinds ≡ Some (Return given)
+return-is kinds None fits = ap clause_of fits
+return-is kinds (Some expr) fits =
+    ap clause_of fits.1 ∙ word-before (codes "RETURN") fits.0 expr fits.2 ∙ ap return_with (given-is fits.0 expr fits.2)
 
-by-sign : (text : List ℕ) (sign : TokenKind) (behind : List TokenKind) (kind : ClauseKind) (equal : Bool) → is_equal sign ≡ equal
-    → cond equal (assign_with text (expr_of behind)) (cond (bytes_eq text (codes "SAY")) (say_with (expr_of (sign ∷ behind))) None) ≡ Some kind
-    → Fits (token.Simple text ∷ (sign ∷ behind)) kind
-by-sign text sign behind kind true tested is = assigns-fits text sign behind kind tested is
-by-sign text sign behind kind false tested is =
-    let says : (bytes_eq text (codes "SAY") ≡ true) × (say_with (expr_of (sign ∷ behind)) ≡ Some kind) =
-    cond-some (bytes_eq text (codes "SAY")) (say_with (expr_of (sign ∷ behind))) kind is in
-    says-fits text (sign ∷ behind) kind says.0 says.1
+names-is : (names : List Name) → names_of (map named names) ≡ Some names
+names-is [] = refl
+names-is (name.Simple text ∷ names) = ap (λ found. with_name (Some text) found) (names-is names)
 
--- NOP alone
-nop-fits : (text : List ℕ) (kind : ClauseKind) → cond (bytes_eq text (codes "NOP")) (Some Nop) None ≡ Some kind → Fits (token.Simple text ∷ []) kind
-nop-fits text kind is =
-    let nops : (bytes_eq text (codes "NOP") ≡ true) × (Some Nop ≡ Some kind) = cond-some (bytes_eq text (codes "NOP")) (Some Nop) kind is in
-    let same : text ≡ codes "NOP" = (bytes_eq-Decides text (codes "NOP")).0 nops.0 in
-    subst (λ (xs : List ℕ). Fits (token.Simple xs ∷ []) kind) (sym same)
-    (subst (λ (k : ClauseKind). Fits (token.Simple (codes "NOP") ∷ []) k) (some-is Nop kind nops.1) refl)
+expose-is : (kinds : List TokenKind) (names : List Name) → FitsExpose kinds names → clause_of kinds ≡ Some (Expose names)
+expose-is kinds [] fits = absurd fits
+expose-is kinds (name.Simple text ∷ names) fits =
+    ap clause_of fits ∙ ap (λ found. expose_with found) (names-is (name.Simple text ∷ names))
 
--- SAY or NOP alone
-word-fits : (text : List ℕ) (kind : ClauseKind) (says : Bool) → bytes_eq text (codes "SAY") ≡ says
-    → cond says (Some (Say None)) (cond (bytes_eq text (codes "NOP")) (Some Nop) None) ≡ Some kind → Fits (token.Simple text ∷ []) kind
-word-fits text kind false tested is = nop-fits text kind is
-word-fits text kind true tested is =
-    let same : text ≡ codes "SAY" = (bytes_eq-Decides text (codes "SAY")).0 tested in
-    subst (λ (xs : List ℕ). Fits (token.Simple xs ∷ []) kind) (sym same)
-    (subst (λ (k : ClauseKind). Fits (token.Simple (codes "SAY") ∷ []) k) (some-is (Say None) kind is) refl)
+listed-is : (names : List Name) → listed_of (listed names) ≡ Some names
+listed-is [] = refl
+listed-is (name.Simple text ∷ names) = ap (λ found. with_name (Some text) found) (listed-is names)
 
-named-fits : (text : List ℕ) (behind : List TokenKind) (kind : ClauseKind) → named_clause text behind ≡ Some kind → Fits (token.Simple text ∷ behind) kind
-named-fits text [] kind is = word-fits text kind (bytes_eq text (codes "SAY")) refl is
-named-fits text (sign ∷ behind) kind is = by-sign text sign behind kind (is_equal sign) refl is
+use-is : (kinds : List TokenKind) (names : List Name) → FitsUse kinds names → clause_of kinds ≡ Some (UseArg names)
+use-is kinds [] fits = absurd fits
+use-is kinds (name.Simple text ∷ names) fits =
+    ap clause_of fits ∙ ap (λ found. use_with (with_name (Some text) found)) (listed-is names)
+
+-- a name that isn't among some words is none of them
+not-among : (words : List (List ℕ)) (text word : List ℕ) (same : Bool) → bytes_eq text word ≡ same → is_in words text ≡ false → is_in words word ≡ true
+    → bytes_eq text word ≡ false
+not-among words text word true tested none has =
+    let both : text ≡ word = bytes-same text word tested in
+    let wrong : true ≡ false = sym has ∙ ap (is_in words) (sym both) ∙ none in
+    cc
+not-among words text word false tested none has = tested
+
+-- no keyword stands at the front
+no-word : (text : List ℕ) (behind : List TokenKind) → is_in keywords text ≡ false
+    → word_clause text behind ≡ message_with (expr_of (token.Simple text ∷ behind))
+no-word text behind none =
+    let not_word : (word : List ℕ) → is_in keywords word ≡ true → bytes_eq text word ≡ false =
+    λ word has. not-among keywords text word (bytes_eq text word) refl none has in
+    ap (λ t. cond t (say_with (given_of behind)) (cond (bytes_eq text (codes "RETURN")) (return_with (given_of behind))
+    (cond (bytes_eq text (codes "NOP")) (nop_of behind) (other_clause text behind)))) (not_word (codes "SAY") refl)
+    ∙ ap (λ t. cond t (return_with (given_of behind)) (cond (bytes_eq text (codes "NOP")) (nop_of behind) (other_clause text behind)))
+    (not_word (codes "RETURN") refl)
+    ∙ ap (λ t. cond t (nop_of behind) (other_clause text behind)) (not_word (codes "NOP") refl)
+    ∙ ap (λ t. cond t (expose_with (names_of behind)) (cond (bytes_eq text (codes "USE")) (use_of behind)
+    (cond (is_in keywords text) None (message_with (expr_of (token.Simple text ∷ behind)))))) (not_word (codes "EXPOSE") refl)
+    ∙ ap (λ t. cond t (use_of behind) (cond (is_in keywords text) None (message_with (expr_of (token.Simple text ∷ behind)))))
+    (not_word (codes "USE") refl)
+    ∙ ap (λ t. cond t None (message_with (expr_of (token.Simple text ∷ behind)))) none
+
+-- a message stands behind the operand
+sends-equal : (text : List ℕ) (sends : List SendPart) (behind : List TokenKind) → (sends ≡ [] → ⊥) → FitsSends sends behind []
+    → named_clause text behind ≡ word_clause text behind
+sends-equal text [] behind some fits = absurd (some refl)
+sends-equal text (send ∷ sends) behind some fits =
+    ap (named_clause text) fits.2 ∙ ap (word_clause text) (sym fits.2)
+
+message-front : (kind : TokenKind) (behind : List TokenKind) (term : Term) → (term.sends ≡ [] → ⊥) → FitsOperand kind term.operand
+    → FitsSends term.sends behind [] → begins_keyword (kind ∷ behind) ≡ false → clause_by kind behind ≡ message_with (expr_of (kind ∷ behind))
+message-front (token.Simple text) behind term some operand fits none = sends-equal text term.sends behind some fits ∙ no-word text behind none
+message-front (token.Quoted text) behind term some operand fits none = refl
+message-front (token.Environment text) behind term some operand fits none = refl
+message-front _ behind term some operand fits none = absurd operand
+
+has-some : (sends : List SendPart) → (sends ≡ [] → ⊥) → not (has_none sends) ≡ true
+has-some [] some = absurd (some refl)
+has-some (send ∷ sends) some = refl
+
+message-is : (kinds : List TokenKind) (term : Term) → FitsMessage kinds term → clause_of kinds ≡ Some (Message term)
+message-is kinds term fits =
+    let whole : FitsTerm term kinds [] = fits.whole in
+    let front : begins_keyword (whole.kind ∷ whole.behind) ≡ false = ap begins_keyword (sym whole.is) ∙ fits.no_keyword in
+    ap clause_of whole.is
+    ∙ message-front whole.kind whole.behind term fits.sends whole.operand whole.sends front
+    ∙ ap (λ xs. message_with (expr_of xs)) (sym whole.is)
+    ∙ ap message_with (term-alone kinds term whole)
+    ∙ ap (λ t. cond t (Some (Message term)) None) (has-some term.sends fits.sends)
+
+pub fits-is : (kinds : List TokenKind) (kind : ClauseKind) → Fits kinds kind → clause_of kinds ≡ Some kind
+fits-is kinds (Say given) fits = say-is kinds given fits
+fits-is kinds (Return given) fits = return-is kinds given fits
+fits-is kinds Nop fits = ap clause_of fits
+fits-is kinds (Assign (name.Simple text) value) fits = ap clause_of fits.1 ∙ ap (assign_with text) (expr-is fits.0 value fits.2)
+fits-is kinds (Expose names) fits = expose-is kinds names fits
+fits-is kinds (UseArg names) fits = use-is kinds names fits
+fits-is kinds (Message term) fits = message-is kinds term fits
 
 -- What the reader takes is a clause of the tokens.
+
+-- what was made of a part that was read
+record HasPart {A : Type 0} (made : A → ClauseKind) (found : Option A) (kind : ClauseKind) : Type 0 where
+  pub part : A
+  pub first : found ≡ Some part
+  pub is : made part ≡ kind
+
+has-say : (found : Option (Option Expr)) (kind : ClauseKind) → say_with found ≡ Some kind → HasPart (λ given. Say given) found kind
+has-say None kind is = cc
+has-say (Some given) kind is = record { part = given; first = refl; is = some-is (Say given) kind is }
+
+has-return : (found : Option (Option Expr)) (kind : ClauseKind) → return_with found ≡ Some kind → HasPart (λ given. Return given) found kind
+has-return None kind is = cc
+has-return (Some given) kind is = record { part = given; first = refl; is = some-is (Return given) kind is }
+
+has-value : (text : List ℕ) (found : Option Expr) (kind : ClauseKind) → assign_with text found ≡ Some kind
+    → HasPart (λ value. Assign (name.Simple text) value) found kind
+has-value text None kind is = cc
+has-value text (Some value) kind is = record { part = value; first = refl; is = some-is (Assign (name.Simple text) value) kind is }
+
+has-uses : (found : Option (List Name)) (kind : ClauseKind) → use_with found ≡ Some kind → HasPart (λ names. UseArg names) found kind
+has-uses None kind is = cc
+has-uses (Some names) kind is = record { part = names; first = refl; is = some-is (UseArg names) kind is }
+
+record HasNames (found : Option (List Name)) (kind : ClauseKind) : Type 0 where
+  pub name : Name
+  pub names : List Name
+  pub first : found ≡ Some (name ∷ names)
+  pub is : Expose (name ∷ names) ≡ kind
+
+has-names : (found : Option (List Name)) (kind : ClauseKind) → expose_with found ≡ Some kind → HasNames found kind
+has-names None kind is = cc
+has-names (Some []) kind is = cc
+has-names (Some (name ∷ names)) kind is =
+    record { name = name; names = names; first = refl; is = some-is (Expose (name ∷ names)) kind is }
+
+record HasFirst (found : Option (List ℕ)) (behind : Option (List Name)) (names : List Name) : Type 0 where
+  pub text : List ℕ
+  pub others : List Name
+  pub first : found ≡ Some text
+  pub rest : behind ≡ Some others
+  pub is : name.Simple text ∷ others ≡ names
+
+has-first : (found : Option (List ℕ)) (behind : Option (List Name)) (names : List Name) → with_name found behind ≡ Some names → HasFirst found behind names
+has-first None behind names is = cc
+has-first (Some text) None names is = cc
+has-first (Some text) (Some others) names is =
+    record { text = text; others = others; first = refl; rest = refl; is = some-is (name.Simple text ∷ others) names is }
+
+given-some : (expr : Option Expr) (given : Option Expr) → option_map (λ x. Some x) expr ≡ Some given → expr ≡ given
+given-some None given is = cc
+given-some (Some expr) given is = some-is (Some expr) given is
+
+word-given : (word : List ℕ) (behind : List TokenKind) (given : Option Expr) → expr_of behind ≡ given → (given ≡ None → ⊥)
+    → FitsWord word (token.Simple word ∷ behind) given
+word-given word behind None is some = absurd (some refl)
+word-given word behind (Some expr) is some = (behind, refl, is-expr behind expr is)
+
+none-mapped : (expr : Option Expr) (given : Option Expr) → option_map (λ x. Some x) expr ≡ Some given → given ≡ None → ⊥
+none-mapped None given is none = cc
+none-mapped (Some expr) given is none =
+    let same : Some expr ≡ given = some-is (Some expr) given is in
+    cc
+
+given-fits : (word : List ℕ) (behind : List TokenKind) (given : Option Expr) → given_of behind ≡ Some given → FitsWord word (token.Simple word ∷ behind) given
+given-fits word [] given is =
+    subst (λ (g : Option Expr). FitsWord word (token.Simple word ∷ []) g) (some-is None given is) refl
+given-fits word (kind ∷ kinds) given is =
+    word-given word (kind ∷ kinds) given (given-some (expr_of (kind ∷ kinds)) given is) (none-mapped (expr_of (kind ∷ kinds)) given is)
+
+-- a clause that a keyword begins, at the keyword
+at-word : (text word : List ℕ) (behind : List TokenKind) (kind : ClauseKind) → bytes_eq text word ≡ true → Fits (token.Simple word ∷ behind) kind
+    → Fits (token.Simple text ∷ behind) kind
+at-word text word behind kind tested fits =
+    subst (λ (xs : List ℕ). Fits (token.Simple xs ∷ behind) kind) (sym (bytes-same text word tested)) fits
+
+say-fits : (behind : List TokenKind) (kind : ClauseKind) → say_with (given_of behind) ≡ Some kind → Fits (token.Simple (codes "SAY") ∷ behind) kind
+say-fits behind kind is =
+    let parts : HasPart (λ given. Say given) (given_of behind) kind = has-say (given_of behind) kind is in
+    subst (λ (k : ClauseKind). Fits (token.Simple (codes "SAY") ∷ behind) k) parts.is (given-fits (codes "SAY") behind parts.part parts.first)
+
+return-fits : (behind : List TokenKind) (kind : ClauseKind) → return_with (given_of behind) ≡ Some kind → Fits (token.Simple (codes "RETURN") ∷ behind) kind
+return-fits behind kind is =
+    let parts : HasPart (λ given. Return given) (given_of behind) kind = has-return (given_of behind) kind is in
+    subst (λ (k : ClauseKind). Fits (token.Simple (codes "RETURN") ∷ behind) k) parts.is (given-fits (codes "RETURN") behind parts.part parts.first)
+
+nop-fits : (behind : List TokenKind) (kind : ClauseKind) → nop_of behind ≡ Some kind → Fits (token.Simple (codes "NOP") ∷ behind) kind
+nop-fits [] kind is = subst (λ (k : ClauseKind). Fits (token.Simple (codes "NOP") ∷ []) k) (some-is Nop kind is) refl
+nop-fits (other ∷ behind) kind is = cc
+
+is-names : (kinds : List TokenKind) (names : List Name) → names_of kinds ≡ Some names → kinds ≡ map named names
+is-names [] names is = ap (map named) (some-is [] names is)
+is-names (kind ∷ kinds) names is =
+    let parts : HasFirst (name_of kind) (names_of kinds) names = has-first (name_of kind) (names_of kinds) names is in
+    ap (λ k. k ∷ kinds) (name-is kind parts.text parts.first)
+    ∙ ap (λ ks. token.Simple parts.text ∷ ks) (is-names kinds parts.others parts.rest)
+    ∙ ap (map named) parts.is
+
+expose-fits : (behind : List TokenKind) (kind : ClauseKind) → expose_with (names_of behind) ≡ Some kind → Fits (token.Simple (codes "EXPOSE") ∷ behind) kind
+expose-fits behind kind is =
+    let parts : HasNames (names_of behind) kind = has-names (names_of behind) kind is in
+    subst (λ (k : ClauseKind). Fits (token.Simple (codes "EXPOSE") ∷ behind) k) parts.is
+    (ap (λ ks. token.Simple (codes "EXPOSE") ∷ ks) (is-names behind (parts.name ∷ parts.names) parts.first))
+
+is-listed : (kinds : List TokenKind) (names : List Name) → listed_of kinds ≡ Some names → kinds ≡ listed names
+is-listed [] names is = ap listed (some-is [] names is)
+is-listed (sign ∷ []) names is = cc
+is-listed (sign ∷ (kind ∷ kinds)) names is =
+    let tested : (is_comma sign ≡ true) × (with_name (name_of kind) (listed_of kinds) ≡ Some names) =
+    cond-some (is_comma sign) (with_name (name_of kind) (listed_of kinds)) names is in
+    let parts : HasFirst (name_of kind) (listed_of kinds) names = has-first (name_of kind) (listed_of kinds) names tested.1 in
+    ap (λ s. s ∷ (kind ∷ kinds)) (comma-is sign tested.0)
+    ∙ ap (λ k. token.Comma ∷ (k ∷ kinds)) (name-is kind parts.text parts.first)
+    ∙ ap (λ ks. token.Comma ∷ (token.Simple parts.text ∷ ks)) (is-listed kinds parts.others parts.rest)
+    ∙ ap listed parts.is
+
+args-fit : (kinds : List TokenKind) (names : List Name) → args_of kinds ≡ Some names
+    → FitsUse (token.Simple (codes "USE") ∷ (token.Simple (codes "ARG") ∷ kinds)) names
+args-fit [] names is = cc
+args-fit (kind ∷ kinds) names is =
+    let parts : HasFirst (name_of kind) (listed_of kinds) names = has-first (name_of kind) (listed_of kinds) names is in
+    subst (λ (ns : List Name). FitsUse (token.Simple (codes "USE") ∷ (token.Simple (codes "ARG") ∷ (kind ∷ kinds))) ns) parts.is
+    (ap (λ k. token.Simple (codes "USE") ∷ (token.Simple (codes "ARG") ∷ (k ∷ kinds))) (name-is kind parts.text parts.first)
+    ∙ ap (λ ks. token.Simple (codes "USE") ∷ (token.Simple (codes "ARG") ∷ (token.Simple parts.text ∷ ks))) (is-listed kinds parts.others parts.rest))
+
+use-fits : (behind : List TokenKind) (kind : ClauseKind) → use_of behind ≡ Some kind → Fits (token.Simple (codes "USE") ∷ behind) kind
+use-fits [] kind is = cc
+use-fits (word ∷ behind) kind is =
+    let tested : (is_word (codes "ARG") word ≡ true) × (use_with (args_of behind) ≡ Some kind) =
+    cond-some (is_word (codes "ARG") word) (use_with (args_of behind)) kind is in
+    let parts : HasPart (λ names. UseArg names) (args_of behind) kind = has-uses (args_of behind) kind tested.1 in
+    subst (λ (k : TokenKind). Fits (token.Simple (codes "USE") ∷ (k ∷ behind)) kind) (sym (word-is (codes "ARG") word tested.0))
+    (subst (λ (k : ClauseKind). Fits (token.Simple (codes "USE") ∷ (token.Simple (codes "ARG") ∷ behind)) k) parts.is
+    (args-fit behind parts.part parts.first))
+
+record HasMessage (found : Option Expr) (kind : ClauseKind) : Type 0 where
+  pub expr : Expr
+  pub first : found ≡ Some expr
+  pub tested : is_message expr ≡ true
+  pub is : Message expr.first ≡ kind
+
+has-message : (found : Option Expr) (kind : ClauseKind) → message_with found ≡ Some kind → HasMessage found kind
+has-message None kind is = cc
+has-message (Some expr) kind is =
+    let parts : (is_message expr ≡ true) × (Some (Message expr.first) ≡ Some kind) = cond-some (is_message expr) (Some (Message expr.first)) kind is in
+    record { expr = expr; first = refl; tested = parts.0; is = some-is (Message expr.first) kind parts.1 }
+
+none-joined : (terms : List Term) (kinds : List TokenKind) → has_none terms ≡ true → FitsJoined terms kinds → kinds ≡ []
+none-joined [] kinds none fits = fits
+none-joined (term ∷ terms) kinds none fits = cc
+
+some-sends : (sends : List SendPart) → not (has_none sends) ≡ true → sends ≡ [] → ⊥
+some-sends [] some none = cc
+some-sends (send ∷ sends) some none = cc
+
+message-fits : (kinds : List TokenKind) (kind : ClauseKind) → begins_keyword kinds ≡ false → message_with (expr_of kinds) ≡ Some kind → Fits kinds kind
+message-fits kinds kind front is =
+    let parts : HasMessage (expr_of kinds) kind = has-message (expr_of kinds) kind is in
+    let fits : FitsExpr kinds parts.expr = is-expr kinds parts.expr parts.first in
+    let none : has_none parts.expr.joined ≡ true = first_so (has_none parts.expr.joined) _ parts.tested in
+    let some : not (has_none parts.expr.first.sends) ≡ true = second_so (has_none parts.expr.joined) _ parts.tested in
+    let ends : fits.others ≡ [] = none-joined parts.expr.joined fits.others none fits.joined in
+    let message : FitsMessage kinds parts.expr.first = record {
+      whole = subst (λ (ks : List TokenKind). FitsTerm parts.expr.first kinds ks) ends fits.first;
+      sends = some-sends parts.expr.first.sends some;
+      no_keyword = front;
+    } in
+    subst (λ (k : ClauseKind). Fits kinds k) parts.is message
+
+other-fits : (text : List ℕ) (behind : List TokenKind) (kind : ClauseKind) → other_clause text behind ≡ Some kind → Fits (token.Simple text ∷ behind) kind
+other-fits text behind kind is =
+    either-way (bytes_eq text (codes "EXPOSE")) (expose_with (names_of behind)) _ (Some kind) is
+    (λ tested exposes. at-word text (codes "EXPOSE") behind kind tested (expose-fits behind kind exposes))
+    (λ _ others. either-way (bytes_eq text (codes "USE")) (use_of behind) _ (Some kind) others
+    (λ tested uses. at-word text (codes "USE") behind kind tested (use-fits behind kind uses))
+    (λ _ more. either-way (is_in keywords text) None (message_with (expr_of (token.Simple text ∷ behind))) (Some kind) more
+    (λ _ none. cc) (λ front message. message-fits (token.Simple text ∷ behind) kind front message)))
+
+word-fits : (text : List ℕ) (behind : List TokenKind) (kind : ClauseKind) → word_clause text behind ≡ Some kind → Fits (token.Simple text ∷ behind) kind
+word-fits text behind kind is =
+    either-way (bytes_eq text (codes "SAY")) (say_with (given_of behind)) _ (Some kind) is
+    (λ tested says. at-word text (codes "SAY") behind kind tested (say-fits behind kind says))
+    (λ _ others. either-way (bytes_eq text (codes "RETURN")) (return_with (given_of behind)) _ (Some kind) others
+    (λ tested returns. at-word text (codes "RETURN") behind kind tested (return-fits behind kind returns))
+    (λ _ more. either-way (bytes_eq text (codes "NOP")) (nop_of behind) (other_clause text behind) (Some kind) more
+    (λ tested nops. at-word text (codes "NOP") behind kind tested (nop-fits behind kind nops))
+    (λ _ rest. other-fits text behind kind rest)))
+
+assign-fits : (text : List ℕ) (sign : TokenKind) (behind : List TokenKind) (kind : ClauseKind) → is_equal sign ≡ true
+    → assign_with text (expr_of behind) ≡ Some kind → Fits (token.Simple text ∷ (sign ∷ behind)) kind
+assign-fits text sign behind kind tested is =
+    let parts : HasPart (λ value. Assign (name.Simple text) value) (expr_of behind) kind = has-value text (expr_of behind) kind is in
+    subst (λ (t : TokenKind). Fits (token.Simple text ∷ (t ∷ behind)) kind) (sym (equal-is sign tested))
+    (subst (λ (k : ClauseKind). Fits (token.Simple text ∷ (token.Operator Equal ∷ behind)) k) parts.is
+    (behind, refl, is-expr behind parts.part parts.first))
+
+named-fits : (text : List ℕ) (behind : List TokenKind) (kind : ClauseKind) → named_clause text behind ≡ Some kind → Fits (token.Simple text ∷ behind) kind
+named-fits text [] kind is = word-fits text [] kind is
+named-fits text (sign ∷ behind) kind is =
+    either-way (is_equal sign) (assign_with text (expr_of behind)) (word_clause text (sign ∷ behind)) (Some kind) is
+    (λ tested assigns. assign-fits text sign behind kind tested assigns) (λ _ word. word-fits text (sign ∷ behind) kind word)
+
 pub is-fits : (kinds : List TokenKind) (kind : ClauseKind) → clause_of kinds ≡ Some kind → Fits kinds kind
 is-fits [] kind is = cc
 is-fits (token.Simple text ∷ behind) kind is = named-fits text behind kind is
-is-fits (_ ∷ behind) kind is = cc
-
-none-not-some : {A : Type 0} (found : Option A) (x : A) → found ≡ None → found ≡ Some x → ⊥
-none-not-some None x none some = cc
-none-not-some (Some y) x none some = cc
-
--- A line is written with one list of tokens.
-pub spells-once : (kinds others : List TokenKind) (line : List ℕ) → Spells kinds line → Spells others line → kinds ≡ others
-spells-once [] [] line spelled again = refl
-spells-once [] (kind ∷ kinds) line spelled again =
-    let comes : Comes kind kinds line = spells-comes kind kinds line again in
-    absurd (none-not-some (first_token (without_blanks line)) (kind, comes.rest) (ap first_token (without_blanks-all line spelled)) comes.first)
-spells-once (kind ∷ kinds) [] line spelled again =
-    let comes : Comes kind kinds line = spells-comes kind kinds line spelled in
-    absurd (none-not-some (first_token (without_blanks line)) (kind, comes.rest) (ap first_token (without_blanks-all line again)) comes.first)
-spells-once (kind ∷ kinds) (other ∷ others) line spelled again =
-    let first : Comes kind kinds line = spells-comes kind kinds line spelled in
-    let second : Comes other others line = spells-comes other others line again in
-    let both : Some (kind, first.rest) ≡ Some (other, second.rest) = sym first.first ∙ second.first in
-    let pair : (kind, first.rest) ≡ (other, second.rest) = cc in
-    let rest : kinds ≡ others = spells-once kinds others second.rest
-    (subst (λ (t : TokenKind × List ℕ). Spells kinds t.1) pair first.others) second.others in
-    ap (λ (t : TokenKind × List ℕ). t.0 ∷ kinds) pair ∙ ap (λ xs. other ∷ xs) rest
-
--- A line is at most one clause.
-pub clause-once : (line : List ℕ) (kind other : ClauseKind) → IsClause line kind → IsClause line other → kind ≡ other
-clause-once line kind other first second =
-    let same : first.tokens ≡ second.tokens = spells-once first.tokens second.tokens line first.spelled second.spelled in
-    let both : Some kind ≡ Some other = sym (fits-is first.tokens kind first.fits) ∙ ap clause_of same ∙ fits-is second.tokens other second.fits in
-    cc
-
--- A clause has a token.
-pub blank-no-clause : (line : List ℕ) (kind : ClauseKind) → Spells [] line → IsClause line kind → ⊥
-blank-no-clause line kind blank is =
-    let same : [] ≡ is.tokens = spells-once [] is.tokens line blank is.spelled in
-    none-not-some (clause_of is.tokens) kind (ap clause_of (sym same)) (fits-is is.tokens kind is.fits)
-
-pub no-tokens-no-clause : (line : List ℕ) → HasNoTokens line → (Spells [] line → ⊥) × ((kind : ClauseKind) → IsClause line kind → ⊥)
-no-tokens-no-clause line none = (none [], λ kind is. none is.tokens is.spelled)
-
--- tokens that are no clause's
-pub no-clause : (line : List ℕ) (tokens : List TokenKind) → AreTokens line tokens → clause_of tokens ≡ None → (kind : ClauseKind) → IsClause line kind → ⊥
-no-clause line tokens are none = λ kind is.
-    none-not-some (clause_of tokens) kind none (ap clause_of (sym (are.only is.tokens is.spelled)) ∙ fits-is is.tokens kind is.fits)
-
-same_clause : (clause other : Clause) → line_of clause ≡ line_of other → kind_of clause ≡ kind_of other → clause ≡ other
-same_clause clause other lines kinds =
-    let first : clause ≡ record { line = line_of other; kind = kind_of clause } = ap (λ n. record clause { line = n }) lines in
-    first ∙ ap (λ k. record other { kind = k }) kinds
-
--- Lines have at most one list of clauses.
-pub clauses-once : (n : ℕ) (lines : List (List ℕ)) (clauses others : List Clause) → AreClauses n lines clauses → AreClauses n lines others → clauses ≡ others
-clauses-once n [] clauses others first second = first ∙ sym second
-clauses-once n (line ∷ lines) clauses others (inl first) (inl second) = clauses-once (n + 1) lines clauses others first.1 second.1
-clauses-once n (line ∷ lines) clauses others (inl first) (inr second) = absurd (blank-no-clause line (kind_of second.0) first.0 second.4)
-clauses-once n (line ∷ lines) clauses others (inr first) (inl second) = absurd (blank-no-clause line (kind_of first.0) second.0 first.4)
-clauses-once n (line ∷ lines) clauses others (inr first) (inr second) =
-    let head : first.0 ≡ second.0 = same_clause first.0 second.0 (first.3 ∙ sym second.3)
-    (clause-once line (kind_of first.0) (kind_of second.0) first.4 second.4) in
-    let tail : first.1 ≡ second.1 = clauses-once (n + 1) lines first.1 second.1 first.5 second.5 in
-    first.2 ∙ ap (λ c. c ∷ first.1) head ∙ ap (λ cs. second.0 ∷ cs) tail ∙ sym second.2
-
--- the program of these parts
-made : List Clause → List Body → List ClassDef → List (List ℕ × ℕ) → List (List ℕ) → Package
-made clauses bodies classes routines split = record {
-  main = record { clauses = clauses };
-  bodies = bodies;
-  classes = classes;
-  routines = routines;
-  lines = split;
-}
-
-is-made : (source : List ℕ) (program : Package) → IsProgram source program → program ≡ made program.main.clauses [] [] [] (lines source)
-unfolding made
-is-made source program is =
-    ap (λ xs. made program.main.clauses xs program.classes program.routines program.lines) is.bodies
-    ∙ ap (λ xs. made program.main.clauses [] xs program.routines program.lines) is.classes
-    ∙ ap (λ xs. made program.main.clauses [] [] xs program.lines) is.routines
-    ∙ ap (λ xs. made program.main.clauses [] [] [] xs) is.split
-
--- A source is at most one program.
-pub program-once : (source : List ℕ) (program other : Package) → IsProgram source program → IsProgram source other → program ≡ other
-program-once source program other first second =
-    is-made source program first
-    ∙ ap (λ xs. made xs [] [] [] (lines source))
-    (clauses-once 1 (lines source) program.main.clauses other.main.clauses first.clauses second.clauses)
-    ∙ sym (is-made source other second)
-
--- Clauses were read up to a line: those of the lines are these and those of the lines that are left.
-pub record HasClauses (lines : List (List ℕ)) (clauses : List Clause) (n : ℕ) (left : List (List ℕ)) : Type 0 where
-  pub joins : (others : List Clause) → AreClauses n left others → AreClauses 1 lines (clauses ++ others)
-  pub only : (all : List Clause) → AreClauses 1 lines all → (others : List Clause) × (all ≡ clauses ++ others) × AreClauses n left others
-
-pub HasClauses-init : (lines : List (List ℕ)) → HasClauses lines [] 1 lines
-HasClauses-init lines = record { joins = λ others are. are; only = λ all are. (all, refl, are) }
-
--- one blank line more
-pub HasClauses-blank : (lines : List (List ℕ)) (clauses : List Clause) (n : ℕ) (line : List ℕ) (left : List (List ℕ))
-    → HasClauses lines clauses n (line ∷ left) → Spells [] line → HasClauses lines clauses (n + 1) left
-HasClauses-blank lines clauses n line left so_far blank = record {
-  joins = λ others are. so_far.joins others (inl (blank, are));
-  only = λ all are.
-      let rest : (others : List Clause) × (all ≡ clauses ++ others) × AreClauses n (line ∷ left) others = so_far.only all are in
-      (rest.0, rest.1, blank_others n line left rest.0 blank rest.2);
-}
-  where
-    blank_others : (n : ℕ) (line : List ℕ) (left : List (List ℕ)) (others : List Clause) → Spells [] line → AreClauses n (line ∷ left) others → AreClauses (n + 1) left others
-    blank_others n line left others blank (inl are) = are.1
-    blank_others n line left others blank (inr are) = absurd (blank-no-clause line (kind_of are.0) blank are.4)
-
--- one clause more
-pub HasClauses-clause : (lines : List (List ℕ)) (clauses : List Clause) (n : ℕ) (line : List ℕ) (left : List (List ℕ)) (clause : Clause)
-    → HasClauses lines clauses n (line ∷ left) → line_of clause ≡ n → IsClause line (kind_of clause) → HasClauses lines (clauses ++ clause ∷ []) (n + 1) left
-HasClauses-clause lines clauses n line left clause so_far number is = record {
-  joins = λ others are.
-      subst (λ (cs : List Clause). AreClauses 1 lines cs) (sym (append_assoc clauses (clause ∷ []) others))
-      (so_far.joins (clause ∷ others) (inr (clause, others, refl, number, is, are)));
-  only = λ all are.
-      let rest : (others : List Clause) × (all ≡ clauses ++ others) × AreClauses n (line ∷ left) others = so_far.only all are in
-      let next : (more : List Clause) × (rest.0 ≡ clause ∷ more) × AreClauses (n + 1) left more = clause_others n line left rest.0 clause number is rest.2 in
-      (next.0, rest.1 ∙ ap (λ cs. clauses ++ cs) next.1 ∙ sym (append_assoc clauses (clause ∷ []) next.0), next.2);
-}
-  where
-    clause_others : (n : ℕ) (line : List ℕ) (left : List (List ℕ)) (others : List Clause) (clause : Clause) → line_of clause ≡ n → IsClause line (kind_of clause)
-        → AreClauses n (line ∷ left) others → (more : List Clause) × (others ≡ clause ∷ more) × AreClauses (n + 1) left more
-    clause_others n line left others clause number is (inl are) = absurd (blank-no-clause line (kind_of clause) are.0 is)
-    clause_others n line left others clause number is (inr are) =
-        let same : are.0 ≡ clause = same_clause are.0 clause (are.3 ∙ sym number) (clause-once line (kind_of are.0) (kind_of clause) are.4 is) in
-        (are.1, are.2 ∙ ap (λ c. c ∷ are.1) same, are.5)
-
--- a line that is refused
-pub HasNoClauses-refused : (lines : List (List ℕ)) (clauses : List Clause) (n : ℕ) (line : List ℕ) (left : List (List ℕ))
-    → HasClauses lines clauses n (line ∷ left) → (Spells [] line → ⊥) × ((kind : ClauseKind) → IsClause line kind → ⊥) → HasNoClauses lines
-HasNoClauses-refused lines clauses n line left so_far refused = λ all are.
-    let rest : (others : List Clause) × (all ≡ clauses ++ others) × AreClauses n (line ∷ left) others = so_far.only all are in
-    no_others n line left rest.0 refused rest.2
-  where
-    no_others : (n : ℕ) (line : List ℕ) (left : List (List ℕ)) (others : List Clause) → (Spells [] line → ⊥) × ((kind : ClauseKind) → IsClause line kind → ⊥)
-        → AreClauses n (line ∷ left) others → ⊥
-    no_others n line left others refused (inl are) = refused.0 are.0
-    no_others n line left others refused (inr are) = refused.1 (kind_of are.0) are.4
-
--- all lines were read
-pub AreClauses-read : (lines : List (List ℕ)) (clauses : List Clause) (n : ℕ) → HasClauses lines clauses n [] → AreClauses 1 lines clauses
-AreClauses-read lines clauses n so_far =
-    subst (λ (cs : List Clause). AreClauses 1 lines cs) (append-nil clauses) (so_far.joins [] refl)
-
--- the lines that are left begin with the next one
-pub line-ahead : (lines : List (List ℕ)) (i : ℕ) (line : List ℕ) → i < length lines → line ≡ get_or lines i line → drop i lines ≡ line ∷ drop (i + 1) lines
-line-ahead lines i line within is =
-    drop-cons lines i line within ∙ ap (λ x. x ∷ drop (suc i) lines) (sym is) ∙ ap (λ n. line ∷ drop n lines) (sym (add-one i))
-
--- what was read of a line's bytes is what the line is
-pub read-is : (line bytes : List ℕ) (found read : Line) → bytes ≡ line → found ≡ read → IsLineRead bytes found → IsLineRead line read
-read-is line bytes found read same is known =
-    subst (λ (r : Line). IsLineRead line r) is (subst (λ (xs : List ℕ). IsLineRead xs found) same known)
-
-pub HasClauses-at : (lines : List (List ℕ)) (clauses : List Clause) (n i : ℕ) (line : List ℕ)
-    → HasClauses lines clauses n (drop i lines) → i < length lines → line ≡ get_or lines i line → HasClauses lines clauses n (line ∷ drop (i + 1) lines)
-HasClauses-at lines clauses n i line so_far within is =
-    subst (λ (left : List (List ℕ)). HasClauses lines clauses n left) (line-ahead lines i line within is) so_far
-
-pub HasClauses-pushed : (lines : List (List ℕ)) (clauses longer : List Clause) (n : ℕ) (line : List ℕ) (left : List (List ℕ)) (clause : Clause)
-    → HasClauses lines clauses n (line ∷ left) → line_of clause ≡ n → IsClause line (kind_of clause) → longer ≡ clauses ++ clause ∷ []
-    → HasClauses lines longer (n + 1) left
-HasClauses-pushed lines clauses longer n line left clause so_far number is pushed =
-    subst (λ (cs : List Clause). HasClauses lines cs (n + 1) left) (sym pushed) (HasClauses-clause lines clauses n line left clause so_far number is)
-
-pub HasClauses-passed : (lines : List (List ℕ)) (clauses same : List Clause) (n : ℕ) (line : List ℕ) (left : List (List ℕ))
-    → HasClauses lines clauses n (line ∷ left) → Spells [] line → same ≡ clauses → HasClauses lines same (n + 1) left
-HasClauses-passed lines clauses same n line left so_far blank is =
-    subst (λ (cs : List Clause). HasClauses lines cs (n + 1) left) (sym is) (HasClauses-blank lines clauses n line left so_far blank)
-
-pub HasClauses-end : (lines : List (List ℕ)) (clauses : List Clause) (n i : ℕ) → HasClauses lines clauses n (drop i lines) → length lines ≤ i → AreClauses 1 lines clauses
-HasClauses-end lines clauses n i so_far past =
-    AreClauses-read lines clauses n (subst (λ (left : List (List ℕ)). HasClauses lines clauses n left) (drop_of_length-le lines past) so_far)
-
--- the tokens of a line that were read, and what they are
-pub line-clause : (line : List ℕ) (tokens : List TokenKind) (kind : ClauseKind) → AreTokens line tokens → clause_of tokens ≡ Some kind → IsClause line kind
-line-clause line tokens kind are is = record { tokens = tokens; spelled = are.spelled; fits = is-fits tokens kind is }
-
--- a line with a token isn't blank
-not-blank : (line : List ℕ) (tokens : List TokenKind) → AreTokens line tokens → (tokens ≡ [] → ⊥) → Spells [] line → ⊥
-not-blank line tokens are some blank = some (sym (are.only [] blank))
-
-pub neither-blank-nor-clause : (line : List ℕ) (tokens : List TokenKind) → AreTokens line tokens → (tokens ≡ [] → ⊥) → clause_of tokens ≡ None
-    → (Spells [] line → ⊥) × ((kind : ClauseKind) → IsClause line kind → ⊥)
-neither-blank-nor-clause line tokens are some none = (not-blank line tokens are some, no-clause line tokens are none)
+is-fits (first ∷ behind) kind is = message-fits (first ∷ behind) kind refl is

@@ -1,5 +1,12 @@
 pub mod Blanks
 pub mod TokenLemmas
+pub mod WrittenLemmas
 pub mod SpellLemmas
 pub mod LineLemmas
+pub mod ExprLemmas
 pub mod ClauseLemmas
+pub mod EntryLemmas
+pub mod DraftLemmas
+pub mod PackageLemmas
+pub mod NameLemmas
+pub mod ProgramLemmas

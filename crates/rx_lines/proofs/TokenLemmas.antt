@@ -1,37 +1,27 @@
 -- The reader's first token is what `IsToken` means.
-use Rattle.std.proofs.Common.{◌≡◌, ◌==◌, ◌⊎◌, inl, inr, ◌+◌, ℕ, suc, Bool, true, false, not, cond, ◌||◌, ◌&&◌, List, [], ◌∷◌, ◌++◌, Option, None, Some, length, take, drop, refl, sym, ◌∙◌, ap, subst, arith, append_assoc}
-use Rattle.std.proofs.lemmas.List.{take-append-drop, append-nil}
+use Rattle.std.proofs.Common.{◌≡◌, ◌≤◌, get_or, add-one, ◌==◌, inl, inr, ◌+◌, ℕ, suc, Bool, true, false, not, cond, ◌||◌, ◌&&◌, List, [], ◌∷◌, ◌++◌, Option, None, Some, length, take, drop, refl, sym, ◌∙◌, ap, subst, arith, append_assoc}
+use Rattle.std.proofs.lemmas.List.{append-nil}
 use Rattle.std.proofs.Math.Seq.{take-append_seam, drop-append_seam}
-use Rattle.std.proofs.lemmas.Bool.{eqb-true, eq-eqb, not-true}
+use Rattle.std.proofs.lemmas.Bool.{eqb-true, eq-eqb}
 use Rattle.std.proofs.lemmas.Bool.Decides.{nat_tests}
 use Rattle.std.specs.Cmp.{first_so, second_so}
 use Rattle.std.proofs.lemmas.List.Sums.{prefix_len-le-length}
 use Rattle.std.specs.List.{list_all, prefix_len}
 use Rattle.std.specs.Str.{str_to_ascii_uppercase}
 use Rattle.rx_tree.specs.declared.token.Oper.{Oper}
-use Rattle.rx_tree.specs.declared.token.Oper.TheVariants.{Concat, Equal}
+use Rattle.rx_tree.specs.declared.token.Oper.TheVariants.{Concat, Equal, Send}
 use Rattle.rx_tree.specs.declared.token.TokenKind.{TokenKind}
-use Rattle.rx_tree.specs.declared.token.TokenKind.TheVariants.{Simple, Quoted, Operator}
-use Rattle.rx_tree.specs.Letters.{is_blank, is_digit, begins}
+use Rattle.rx_tree.specs.declared.token.TokenKind.TheVariants.{Simple, Environment, Quoted, Operator, LeftParen, RightParen, Comma, TwoColons}
+use Rattle.rx_tree.specs.Letters.{is_blank, is_digit, is_quote, begins}
 use Rattle.rx_tree.specs.Strings.{doubled}
-use Rattle.rx_lines.specs.Tokens.{is_name_byte, is_symbol_byte, is_name, IsQuoted, IsNamed, IsSign, IsToken}
-use Rattle.rx_lines.specs.Reader.{string_from, string_at_quote, quoted_token, named_token, name_at, join_behind, equal_behind, sign_or_name, first_token}
+use Rattle.rx_lines.specs.Tokens.{is_name_byte, is_symbol_byte, is_name, IsNamed, IsEnvironment, IsSign, IsToken}
+use Rattle.rx_lines.specs.Reader.{string_from, string_at_quote, quoted_token, simple_token, environment_token, named_at, name_at, sign_at, first_token}
 use Rattle.rx_lines.proofs.Blanks.{both_so}
-
--- the bytes begin with this token, in front of the rest
-pub record BeginsWith (kind : TokenKind) (rest bytes : List ℕ) : Type 0 where
-  pub written : List ℕ
-  pub is : bytes ≡ written ++ rest
-  pub token : IsToken kind written rest
-
-cond-some : {A : Type 0} (t : Bool) (x y : A) → cond t (Some x) None ≡ Some y → (t ≡ true) × (x ≡ y)
-cond-some true x y is = (refl, cc)
-cond-some false x y is = cc
 
 -- Strings.
 
 -- a string's text behind its opening quote, as it is written, in front of the rest
-record Closes (quote : ℕ) (text bytes : List ℕ) (read : List ℕ × List ℕ) : Type 0 where
+pub record Closes (quote : ℕ) (text bytes : List ℕ) (read : List ℕ × List ℕ) : Type 0 where
   pub more : List ℕ
   pub whole : read.0 ≡ text ++ more
   pub is : bytes ≡ doubled quote more ++ (quote ∷ read.1)
@@ -86,7 +76,7 @@ closes-quote quote b text bytes read true tested is from =
 closes-quote quote b text bytes read false tested is from = closes-here quote text (b ∷ bytes) read tested is
 
 mutual
-  string_from-closes : (quote : ℕ) (text bytes : List ℕ) (read : List ℕ × List ℕ)
+  pub string_from-closes : (quote : ℕ) (text bytes : List ℕ) (read : List ℕ × List ℕ)
       → string_from quote text bytes ≡ Some read → Closes quote text bytes read
   string_from-closes quote text [] read is = cc
   string_from-closes quote text (b ∷ bytes) read is =
@@ -143,7 +133,7 @@ front-all test b bytes true is rest =
 front-all test b bytes false is rest = refl
 
 -- the bytes that are counted pass
-prefix_len-all : (test : ℕ → Bool) (bytes : List ℕ) → list_all test (take (prefix_len test bytes) bytes) ≡ true
+pub prefix_len-all : (test : ℕ → Bool) (bytes : List ℕ) → list_all test (take (prefix_len test bytes) bytes) ≡ true
 prefix_len-all test [] = refl
 prefix_len-all test (b ∷ bytes) = front-all test b bytes (test b) refl (prefix_len-all test bytes)
 
@@ -165,7 +155,7 @@ name-bytes (first ∷ bytes) is =
       second_so (is_name_byte first) _ front,
     )
 
-bytes-name : (name : List ℕ) → list_all is_name_byte name ≡ true → begins (λ b. not (is_digit b)) name ≡ true → is_name name ≡ true
+pub bytes-name : (name : List ℕ) → list_all is_name_byte name ≡ true → begins (λ b. not (is_digit b)) name ≡ true → is_name name ≡ true
 bytes-name [] all begins_so = cc
 bytes-name (first ∷ bytes) all begins_so =
     both_so (is_name_byte first && not (is_digit first)) _ (both_so (is_name_byte first) _ (first_so (is_name_byte first) _ all) begins_so)
@@ -180,46 +170,46 @@ no-symbol : (rest : List ℕ) → begins is_symbol_byte rest ≡ false → begin
 no-symbol [] ends = refl
 no-symbol (b ∷ rest) ends = neither (is_name_byte b) _ ends
 
-named-token : (name rest : List ℕ) → begins (λ b. not (is_digit b)) name ≡ true → begins is_symbol_byte rest ≡ false
-    → named_token name rest ≡ Some (Simple (str_to_ascii_uppercase name), rest)
-named-token name rest starts ends =
-    ap (λ t. cond t (Some (Simple (str_to_ascii_uppercase name), rest)) None)
+named-at : (name rest : List ℕ) → begins (λ b. not (is_digit b)) name ≡ true → begins is_symbol_byte rest ≡ false
+    → named_at name rest ≡ Some (str_to_ascii_uppercase name, rest)
+named-at name rest starts ends =
+    ap (λ t. cond t (Some (str_to_ascii_uppercase name, rest)) None)
     (both_so (begins (λ b. not (is_digit b)) name) _ starts (ap not ends))
 
-name_at-is : (name rest written : List ℕ) → IsNamed name written rest → name_at (written ++ rest) ≡ Some (Simple name, rest)
+name_at-is : (name rest written : List ℕ) → IsNamed name written rest → name_at (written ++ rest) ≡ Some (name, rest)
 name_at-is name rest written token =
     let parts : (list_all is_name_byte written ≡ true) × (begins (λ b. not (is_digit b)) written ≡ true) = name-bytes written token.is_name in
     let count : prefix_len is_name_byte (written ++ rest) ≡ length written =
     prefix_len-is is_name_byte written rest parts.0 (no-symbol rest token.ends) in
-    ap (λ n. named_token (take n (written ++ rest)) (drop n (written ++ rest))) count
-    ∙ ap (λ xs. named_token xs (drop (length written) (written ++ rest))) (take-append_seam written rest)
-    ∙ ap (λ xs. named_token written xs) (drop-append_seam written rest)
-    ∙ named-token written rest parts.1 token.ends
-    ∙ ap (λ xs. Some (Simple xs, rest)) (sym token.is)
-
--- the first byte of a name is no quote and no blank
-no-quote : (b : ℕ) → is_name_byte b ≡ true → ((b == 39) || (b == 34)) ≡ false
-no-quote b is = grind (arith, nat_tests)
-
-no-bar : (b : ℕ) → is_name_byte b ≡ true → (b == 124) ≡ false
-no-bar b is = grind (arith, nat_tests)
-
-no-equal : (b : ℕ) → is_name_byte b ≡ true → (b == 61) ≡ false
-no-equal b is = grind (arith, nat_tests)
+    ap (λ n. named_at (take n (written ++ rest)) (drop n (written ++ rest))) count
+    ∙ ap (λ xs. named_at xs (drop (length written) (written ++ rest))) (take-append_seam written rest)
+    ∙ ap (λ xs. named_at written xs) (drop-append_seam written rest)
+    ∙ named-at written rest parts.1 token.ends
+    ∙ ap (λ xs. Some (xs, rest)) (sym token.is)
 
 pub no-blank : (b : ℕ) → is_name_byte b ≡ true → is_blank b ≡ false
 no-blank b is = grind (arith, nat_tests)
 
+-- what the reader takes of bytes that begin with no byte of a name
+other_token : ℕ → List ℕ → Option (TokenKind × List ℕ)
+other_token b bytes =
+    cond ((b == 39) || (b == 34)) (quoted_token (string_from b [] bytes)) (cond (b == 46) (environment_token (name_at bytes)) (sign_at b bytes))
+
 first_token-name : (name rest written : List ℕ) → IsNamed name written rest → first_token (written ++ rest) ≡ Some (Simple name, rest)
+unfolding other_token
 first_token-name name rest [] token = let none : false ≡ true = token.is_name in cc
 first_token-name name rest (b ∷ written) token =
     let all : list_all is_name_byte (b ∷ written) ≡ true = (name-bytes (b ∷ written) token.is_name).0 in
-    let named : is_name_byte b ≡ true = first_so (is_name_byte b) _ all in
     let bytes : List ℕ = written ++ rest in
-    ap (λ t. cond t (quoted_token (string_from b [] bytes)) (sign_or_name b bytes)) (no-quote b named)
-    ∙ ap (λ t. cond t (join_behind bytes) (cond (b == 61) (equal_behind bytes) (name_at (b ∷ bytes)))) (no-bar b named)
-    ∙ ap (λ t. cond t (equal_behind bytes) (name_at (b ∷ bytes))) (no-equal b named)
-    ∙ name_at-is name rest (b ∷ written) token
+    ap (λ t. cond t (simple_token (name_at (b ∷ bytes))) (other_token b bytes)) (first_so (is_name_byte b) _ all)
+    ∙ ap simple_token (name_at-is name rest (b ∷ written) token)
+
+first_token-environment : (symbol rest written : List ℕ) → IsEnvironment symbol written rest
+    → first_token (written ++ rest) ≡ Some (Environment symbol, rest)
+first_token-environment symbol rest written token =
+    ap (λ xs. first_token (xs ++ rest)) token.is
+    ∙ ap environment_token (name_at-is token.name rest token.behind token.named)
+    ∙ ap (λ xs. Some (Environment xs, rest)) (sym token.whole)
 
 string-of : (quote : ℕ) (text rest : List ℕ) → begins (λ b. b == quote) rest ≡ false
     → quoted_token (string_from quote [] ((doubled quote text ++ quote ∷ []) ++ rest)) ≡ Some (Quoted text, rest)
@@ -231,19 +221,27 @@ first_token-sign : (oper : Oper) (rest written : List ℕ) → IsSign oper writt
 first_token-sign Concat rest written token = ap (λ xs. first_token (xs ++ rest)) token
 first_token-sign Equal rest written token =
     ap (λ xs. first_token (xs ++ rest)) token.0 ∙ ap (λ t. cond t None (Some (Operator Equal, rest))) token.1
+first_token-sign Send rest written token =
+    ap (λ xs. first_token (xs ++ rest)) token.0 ∙ ap (λ t. cond t None (Some (Operator Send, rest))) token.1
 first_token-sign _ rest written token = absurd token
 
 -- A token that is written at the front of the bytes is the one that the reader takes.
 pub first_token-is : (kind : TokenKind) (rest written : List ℕ) → IsToken kind written rest → first_token (written ++ rest) ≡ Some (kind, rest)
 first_token-is (Simple name) rest written token = first_token-name name rest written token
+first_token-is (Environment symbol) rest written token = first_token-environment symbol rest written token
 first_token-is (Quoted text) rest written (inl token) = ap (λ xs. first_token (xs ++ rest)) token.is ∙ string-of 39 text rest token.ends
 first_token-is (Quoted text) rest written (inr token) = ap (λ xs. first_token (xs ++ rest)) token.is ∙ string-of 34 text rest token.ends
 first_token-is (Operator oper) rest written token = first_token-sign oper rest written token
+first_token-is LeftParen rest written token = ap (λ xs. first_token (xs ++ rest)) token
+first_token-is RightParen rest written token = ap (λ xs. first_token (xs ++ rest)) token
+first_token-is Comma rest written token = ap (λ xs. first_token (xs ++ rest)) token
+first_token-is TwoColons rest written token = ap (λ xs. first_token (xs ++ rest)) token
 first_token-is _ rest written token = absurd token
 
 sign-front : (oper : Oper) (rest written : List ℕ) → IsSign oper written rest → begins is_blank (written ++ rest) ≡ false
 sign-front Concat rest written token = ap (λ xs. begins is_blank (xs ++ rest)) token
 sign-front Equal rest written token = ap (λ xs. begins is_blank (xs ++ rest)) token.0
+sign-front Send rest written token = ap (λ xs. begins is_blank (xs ++ rest)) token.0
 sign-front _ rest written token = absurd token
 
 -- A token begins with no blank.
@@ -251,114 +249,37 @@ pub token-front : (kind : TokenKind) (rest written : List ℕ) → IsToken kind 
 token-front (Simple name) rest [] token = let none : false ≡ true = token.is_name in cc
 token-front (Simple name) rest (b ∷ written) token =
     no-blank b (first_so (is_name_byte b) _ (name-bytes (b ∷ written) token.is_name).0)
+token-front (Environment symbol) rest written token = ap (λ xs. begins is_blank (xs ++ rest)) token.is
 token-front (Quoted text) rest written (inl token) = ap (λ xs. begins is_blank (xs ++ rest)) token.is
 token-front (Quoted text) rest written (inr token) = ap (λ xs. begins is_blank (xs ++ rest)) token.is
 token-front (Operator oper) rest written token = sign-front oper rest written token
+token-front LeftParen rest written token = ap (λ xs. begins is_blank (xs ++ rest)) token
+token-front RightParen rest written token = ap (λ xs. begins is_blank (xs ++ rest)) token
+token-front Comma rest written token = ap (λ xs. begins is_blank (xs ++ rest)) token
+token-front TwoColons rest written token = ap (λ xs. begins is_blank (xs ++ rest)) token
 token-front _ rest written token = absurd token
 
--- What the reader takes is written so.
+not-equal : (b byte : ℕ) → (b ≡ byte → ⊥) → (b == byte) ≡ false
+not-equal b byte other = grind (arith, nat_tests)
 
-quoted-token : (kind : TokenKind) (rest : List ℕ) (read : Option (List ℕ × List ℕ)) → quoted_token read ≡ Some (kind, rest)
-    → (text : List ℕ) × (read ≡ Some (text, rest)) × (kind ≡ Quoted text)
-quoted-token kind rest None is = cc
-quoted-token kind rest (Some read) is =
-    let same : (Quoted read.0, read.1) ≡ (kind, rest) = cc in
-    (read.0, ap (λ (t : TokenKind × List ℕ). Some (read.0, t.1)) same, ap (λ (t : TokenKind × List ℕ). t.0) (sym same))
+-- a token that begins with no byte of a name, no quote and no period
+pub first_token-other : (bytes : List ℕ) → 1 ≤ length bytes → is_name_byte (get_or bytes 0 0) ≡ false → is_quote (get_or bytes 0 0) ≡ false
+    → (get_or bytes 0 0 ≡ 46 → ⊥) → first_token bytes ≡ sign_at (get_or bytes 0 0) (drop 1 bytes)
+first_token-other [] some named quotes period = absurd (omega arith)
+first_token-other (b ∷ bytes) some named quotes period = other-at b bytes named quotes (not-equal b 46 period)
+  where
+    other-at : (b : ℕ) (bytes : List ℕ) → is_name_byte b ≡ false → is_quote b ≡ false → (b == 46) ≡ false → first_token (b ∷ bytes) ≡ sign_at b bytes
+    other-at b bytes named quotes period =
+        ap (λ t. cond t (simple_token (name_at (b ∷ bytes))) (cond ((b == 39) || (b == 34)) (quoted_token (string_from b [] bytes))
+        (cond (b == 46) (environment_token (name_at bytes)) (sign_at b bytes)))) named
+        ∙ ap (λ t. cond t (quoted_token (string_from b [] bytes)) (cond (b == 46) (environment_token (name_at bytes)) (sign_at b bytes))) quotes
+        ∙ ap (λ t. cond t (environment_token (name_at bytes)) (sign_at b bytes)) period
 
--- a string behind its opening quote
-quoted-is : (quote : ℕ) (kind : TokenKind) (rest bytes : List ℕ) → quoted_token (string_from quote [] bytes) ≡ Some (kind, rest)
-    → (text : List ℕ) × (kind ≡ Quoted text) × (bytes ≡ (doubled quote text ++ quote ∷ []) ++ rest) × (begins (λ b. b == quote) rest ≡ false)
-quoted-is quote kind rest bytes is =
-    let found : (text : List ℕ) × (string_from quote [] bytes ≡ Some (text, rest)) × (kind ≡ Quoted text) =
-    quoted-token kind rest (string_from quote [] bytes) is in
-    let closes : Closes quote [] bytes (found.0, rest) = string_from-closes quote [] bytes (found.0, rest) found.1 in (
-      found.0,
-      found.2,
-      closes.is ∙ ap (λ xs. doubled quote xs ++ (quote ∷ rest)) (sym closes.whole) ∙ sym (append_assoc (doubled quote found.0) (quote ∷ []) rest),
-      closes.ends,
-    )
-
-written_quoted : (quote : ℕ) (kind : TokenKind) (rest bytes : List ℕ)
-    → ((text : List ℕ) → IsQuoted quote text (quote ∷ (doubled quote text ++ quote ∷ [])) rest → IsToken (Quoted text) (quote ∷ (doubled quote text ++ quote ∷ [])) rest)
-    → quoted_token (string_from quote [] bytes) ≡ Some (kind, rest) → BeginsWith kind rest (quote ∷ bytes)
-written_quoted quote kind rest bytes as_token is =
-    let found : (text : List ℕ) × (kind ≡ Quoted text) × (bytes ≡ (doubled quote text ++ quote ∷ []) ++ rest) × (begins (λ b. b == quote) rest ≡ false) =
-    quoted-is quote kind rest bytes is in
-    record {
-      written = quote ∷ (doubled quote found.0 ++ quote ∷ []);
-      is = ap (λ xs. quote ∷ xs) found.2;
-      token = subst (λ (k : TokenKind). IsToken k (quote ∷ (doubled quote found.0 ++ quote ∷ [])) rest) (sym found.1)
-          (as_token found.0 (record { is = refl; ends = found.3 }));
-    }
-
-either-is : (s t : Bool) → (s || t) ≡ true → (s ≡ true) ⊎ (t ≡ true)
-either-is true t is = inl refl
-either-is false t is = inr is
-
-written_name : (kind : TokenKind) (rest bytes : List ℕ) → name_at bytes ≡ Some (kind, rest) → BeginsWith kind rest bytes
-written_name kind rest bytes is =
-    let n : ℕ = prefix_len is_name_byte bytes in
-    let name : List ℕ = take n bytes in
-    let behind : List ℕ = drop n bytes in
-    let found : ((begins (λ b. not (is_digit b)) name && not (begins is_symbol_byte behind)) ≡ true)
-    × ((Simple (str_to_ascii_uppercase name), behind) ≡ (kind, rest)) = cond-some _ _ _ is in
-    let token : IsNamed (str_to_ascii_uppercase name) name behind = record {
-      is_name = bytes-name name (prefix_len-all is_name_byte bytes) (first_so (begins (λ b. not (is_digit b)) name) _ found.0);
-      is = refl;
-      ends = not-true (begins is_symbol_byte behind) (second_so (begins (λ b. not (is_digit b)) name) _ found.0);
-    } in
-    subst (λ (t : TokenKind × List ℕ). BeginsWith t.0 t.1 bytes) found.1
-    (record { written = name; is = sym (take-append-drop n bytes); token = token })
-
--- a sign that is written so is at the front of the bytes
-written_sign : (oper : Oper) (kind : TokenKind) (written rest behind : List ℕ) → IsSign oper written rest → ◌≡◌ {A = TokenKind × List ℕ} (Operator oper, rest) (kind, behind)
-    → BeginsWith kind behind (written ++ rest)
-written_sign oper kind written rest behind sign is =
-    subst (λ (t : TokenKind × List ℕ). BeginsWith t.0 t.1 (written ++ rest)) is (record { written = written; is = refl; token = sign })
-
-join_written : (kind : TokenKind) (rest bytes : List ℕ) → join_behind bytes ≡ Some (kind, rest) → BeginsWith kind rest (124 ∷ bytes)
-join_written kind rest [] is = cc
-join_written kind rest (b ∷ bytes) is =
-    let found : ((b == 124) ≡ true) × ((Operator Concat, bytes) ≡ (kind, rest)) = cond-some (b == 124) (Operator Concat, bytes) (kind, rest) is in
-    subst (λ (x : ℕ). BeginsWith kind rest (124 ∷ (x ∷ bytes))) (sym (eqb-true b 124 found.0))
-    (written_sign Concat kind (124 ∷ (124 ∷ [])) bytes rest refl found.1)
-
-cond-none : {A : Type 0} (t : Bool) (x y : A) → cond t None (Some x) ≡ Some y → (t ≡ false) × (x ≡ y)
-cond-none true x y is = cc
-cond-none false x y is = (refl, cc)
-
-equal_written : (kind : TokenKind) (rest bytes : List ℕ) → equal_behind bytes ≡ Some (kind, rest) → BeginsWith kind rest (61 ∷ bytes)
-equal_written kind rest bytes is =
-    let found : (begins (λ b. b == 61) bytes ≡ false) × ((Operator Equal, bytes) ≡ (kind, rest)) =
-    cond-none (begins (λ b. b == 61) bytes) (Operator Equal, bytes) (kind, rest) is in
-    written_sign Equal kind (61 ∷ []) bytes rest (refl, found.0) found.1
-
-written_equal : (b : ℕ) (kind : TokenKind) (rest bytes : List ℕ) (equal : Bool) → (b == 61) ≡ equal
-    → cond equal (equal_behind bytes) (name_at (b ∷ bytes)) ≡ Some (kind, rest) → BeginsWith kind rest (b ∷ bytes)
-written_equal b kind rest bytes true tested is =
-    subst (λ (x : ℕ). BeginsWith kind rest (x ∷ bytes)) (sym (eqb-true b 61 tested)) (equal_written kind rest bytes is)
-written_equal b kind rest bytes false tested is = written_name kind rest (b ∷ bytes) is
-
-written_bar : (b : ℕ) (kind : TokenKind) (rest bytes : List ℕ) (bar : Bool) → (b == 124) ≡ bar
-    → cond bar (join_behind bytes) (cond (b == 61) (equal_behind bytes) (name_at (b ∷ bytes))) ≡ Some (kind, rest) → BeginsWith kind rest (b ∷ bytes)
-written_bar b kind rest bytes true tested is =
-    subst (λ (x : ℕ). BeginsWith kind rest (x ∷ bytes)) (sym (eqb-true b 124 tested)) (join_written kind rest bytes is)
-written_bar b kind rest bytes false tested is = written_equal b kind rest bytes (b == 61) refl is
-
-written_at : (b : ℕ) (kind : TokenKind) (rest bytes : List ℕ) (quotes : Bool) → ((b == 39) || (b == 34)) ≡ quotes
-    → cond quotes (quoted_token (string_from b [] bytes)) (sign_or_name b bytes) ≡ Some (kind, rest) → BeginsWith kind rest (b ∷ bytes)
-written_at b kind rest bytes true tested is =
-    elim (either-is (b == 39) (b == 34) tested) [
-      | inl single ↦ let same : b ≡ 39 = eqb-true b 39 single in
-          subst (λ (x : ℕ). BeginsWith kind rest (x ∷ bytes)) (sym same)
-          (written_quoted 39 kind rest bytes (λ text token. inl token) (ap (λ x. quoted_token (string_from x [] bytes)) (sym same) ∙ is))
-      | inr double ↦ let same : b ≡ 34 = eqb-true b 34 double in
-          subst (λ (x : ℕ). BeginsWith kind rest (x ∷ bytes)) (sym same)
-          (written_quoted 34 kind rest bytes (λ text token. inr token) (ap (λ x. quoted_token (string_from x [] bytes)) (sym same) ∙ is))
-    ]
-written_at b kind rest bytes false tested is = written_bar b kind rest bytes (b == 124) refl is
-
--- The token that the reader takes is written at the front of the bytes.
-pub first_token-written : (kind : TokenKind) (rest bytes : List ℕ) → first_token bytes ≡ Some (kind, rest) → BeginsWith kind rest bytes
-first_token-written kind rest [] is = cc
-first_token-written kind rest (b ∷ bytes) is = written_at b kind rest bytes ((b == 39) || (b == 34)) refl is
+-- an environment symbol, by the length of its name
+pub environment_token-read : (bytes behind symbol rest : List ℕ) (n : ℕ) → bytes ≡ 46 ∷ behind → symbol ≡ str_to_ascii_uppercase (take (n + 1) bytes)
+    → rest ≡ drop n behind → name_at behind ≡ Some (str_to_ascii_uppercase (take n behind), drop n behind)
+    → ◌≡◌ {A = Option (TokenKind × List ℕ)} (Some (Environment symbol, rest)) (environment_token (name_at behind))
+environment_token-read bytes behind symbol rest n period upper ends named =
+    let text : symbol ≡ 46 ∷ str_to_ascii_uppercase (take n behind) =
+    upper ∙ ap (λ xs. str_to_ascii_uppercase (take (n + 1) xs)) period ∙ ap (λ m. str_to_ascii_uppercase (take m (46 ∷ behind))) (add-one n) in
+    ap (λ xs. Some (Environment symbol, xs)) ends ∙ ap (λ xs. Some (Environment xs, drop n behind)) text ∙ ap environment_token (sym named)

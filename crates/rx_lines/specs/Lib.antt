@@ -1,5 +1,12 @@
 pub mod Tokens
+pub mod Names
 pub mod Clauses
+pub mod Entries
+pub mod Packages
+pub mod Conditions
+pub mod Length
 pub mod Programs
 pub mod Reader
-pub mod LineRead
+pub mod ClauseReader
+pub mod DraftReader
+pub mod NameTable

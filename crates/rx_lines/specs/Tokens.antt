@@ -5,9 +5,9 @@ use Rattle.std.specs.Str.{str_to_ascii_uppercase}
 use Rattle.rx_tree.specs.Letters.{is_blank, is_digit, is_letter, begins}
 use Rattle.rx_tree.specs.Strings.{doubled}
 use Rattle.rx_tree.specs.declared.token.Oper.{Oper}
-use Rattle.rx_tree.specs.declared.token.Oper.TheVariants.{Concat, Equal}
+use Rattle.rx_tree.specs.declared.token.Oper.TheVariants.{Concat, Equal, Send}
 use Rattle.rx_tree.specs.declared.token.TokenKind.{TokenKind}
-use Rattle.rx_tree.specs.declared.token.TokenKind.TheVariants.{Simple, Quoted, Operator}
+use Rattle.rx_tree.specs.declared.token.TokenKind.TheVariants.{Simple, Environment, Quoted, Operator, LeftParen, RightParen, Comma, TwoColons}
 
 -- A byte of a name: a letter, a digit, `!`, `?` or `_`.
 abbrev pub is_name_byte : ℕ → Bool
@@ -33,19 +33,38 @@ pub record IsNamed (name written rest : List ℕ) : Type 0 where
   pub is : name ≡ str_to_ascii_uppercase written
   pub ends : begins is_symbol_byte rest ≡ false
 
--- An operator: `||`, or `=` alone. The line form has no other.
+-- An environment symbol: a period and a name.
+pub record IsEnvironment (symbol written rest : List ℕ) : Type 0 where
+  pub name : List ℕ
+  pub behind : List ℕ
+  pub is : written ≡ 46 ∷ behind
+  pub named : IsNamed name behind rest
+  pub whole : symbol ≡ 46 ∷ name
+
+-- An operator: `||`, or `=` alone, or `~` alone. The line form has no other.
 abbrev pub IsSign : Oper → List ℕ → List ℕ → Type 0
 IsSign Concat written rest = written ≡ 124 ∷ (124 ∷ [])
 IsSign Equal written rest = (written ≡ 61 ∷ []) × (begins (λ b. b == 61) rest ≡ false)
+IsSign Send written rest = (written ≡ 126 ∷ []) × (begins (λ b. b == 126) rest ≡ false)
 IsSign _ written rest = ⊥
 
--- A token is written so, in front of the rest: a name, a string in single or in double quotes, or an operator. The line
--- form has no other tokens.
+-- A token is written so, in front of the rest: a name, an environment symbol, a string in single or in double quotes, an
+-- operator, `(`, `)`, `,` or `::`. The line form has no other tokens.
 abbrev pub IsToken : TokenKind → List ℕ → List ℕ → Type 0
 IsToken (Simple name) written rest = IsNamed name written rest
+IsToken (Environment symbol) written rest = IsEnvironment symbol written rest
 IsToken (Quoted text) written rest = IsQuoted 39 text written rest ⊎ IsQuoted 34 text written rest
 IsToken (Operator oper) written rest = IsSign oper written rest
+IsToken LeftParen written rest = written ≡ 40 ∷ []
+IsToken RightParen written rest = written ≡ 41 ∷ []
+IsToken Comma written rest = written ≡ 44 ∷ []
+IsToken TwoColons written rest = written ≡ 58 ∷ (58 ∷ [])
 IsToken _ written rest = ⊥
+
+-- Blanks may stand before a token, but none before `(`.
+abbrev pub MayPrecede : TokenKind → List ℕ → Type 0
+MayPrecede LeftParen blanks = blanks ≡ []
+MayPrecede _ blanks = IsTrue (list_all is_blank blanks)
 
 -- A line is blanks, a token, and a rest of which this holds.
 pub record Begins (kind : TokenKind) (Rest : List ℕ → Type 0) (line : List ℕ) : Type 0 where
@@ -53,7 +72,7 @@ pub record Begins (kind : TokenKind) (Rest : List ℕ → Type 0) (line : List �
   pub written : List ℕ
   pub rest : List ℕ
   pub is : line ≡ blanks ++ (written ++ rest)
-  pub are_blanks : IsTrue (list_all is_blank blanks)
+  pub before : MayPrecede kind blanks
   pub token : IsToken kind written rest
   pub others : Rest rest
 

@@ -1,25 +1,14 @@
 // The token at the front of some bytes.
-ghost use Rattle.std.specs.Prelude.{◌≡◌, ◌≤◌, ◌<◌, ◌+◌, ℕ, List, length, [], IfOk, IfSome, OnSome, Some, option_map, not};
+ghost use Rattle.std.specs.Prelude.{◌≡◌, ◌≤◌, ◌<◌, ◌+◌, ◌==◌, ◌∷◌, ℕ, List, length, [], IfOk, IfSome, OnSome, Some, option_map, not, take, drop, MatchOption, None};
 ghost use Rattle.std.specs.List.{prefix_len};
 ghost use Rattle.std.specs.Str.{str_to_ascii_uppercase};
-ghost use Rattle.rx_tree.specs.Letters.{is_digit, begins};
+ghost use Rattle.rx_tree.specs.Letters.{is_digit, is_quote, begins};
 ghost use Rattle.rx_lines.specs.Tokens.{is_name_byte, is_symbol_byte};
-ghost use Rattle.rx_lines.specs.Reader.{without_blanks, string_from, quoted_token, name_at, join_behind, equal_behind, first_token, TokenRead};
+ghost use Rattle.rx_lines.specs.Reader.{string_from, quoted_token, simple_token, environment_token, name_at, first_token, TokenRead};
 
-use rx_tree::{Oper, OutOfMemory, Text, TokenKind};
+use crate::sign::read_sign;
+use rx_tree::{OutOfMemory, Text, TokenKind};
 use std::alloc::Global;
-
-/// The bytes from the first that is no blank.
-pub fn skip_blanks(bytes: &[u8]) -> &[u8]
-    ensures rest { result.now ≡ without_blanks bytes.now }
-    ensures within { length result.now ≤ length bytes.now }
-{
-    let mut rest = bytes;
-    while let [b' ' | b'\t', more @ ..] = rest {
-        rest = more;
-    }
-    rest
-}
 
 fn is_name_byte(byte: u8) -> bool
     ensures { result ≡ is_name_byte byte }
@@ -69,19 +58,52 @@ fn upper_text(alloc: Global, bytes: &[u8]) -> Result<Text, OutOfMemory>
     Text::from_slice(alloc, upper.as_slice())
 }
 
-// A name at the front of the bytes, which is a whole symbol.
+// The length of the name at the front of the bytes, where it is a whole symbol.
 #[tactic(auto, using(crate::proofs::TokenLemmas::lengths))]
-fn read_name(alloc: Global, bytes: &[u8]) -> Result<Option<(TokenKind, &[u8])>, OutOfMemory>
-    requires { length bytes.now ≤ Text.LONGEST }
-    ensures { IfOk result (λ read. TokenRead read (name_at bytes.now)) }
+fn whole_name(bytes: &[u8]) -> Option<usize>
+    ensures name { MatchOption result (name_at bytes.now ≡ None) (λ n. name_at bytes.now ≡ Some (str_to_ascii_uppercase (take n bytes.now), drop n bytes.now)) }
+    ensures within { IfSome result (λ n. n ≤ length bytes.now) }
 {
     let length = name_length(bytes);
-    let (name, rest) = (&bytes[..length], &bytes[length..]);
-    if !begins_name(name) || begins_in_symbol(rest) {
-        return Ok(None);
+    if !begins_name(&bytes[..length]) || begins_in_symbol(&bytes[length..]) {
+        return None;
     }
-    let name = upper_text(alloc, name)?;
-    Ok(Some((TokenKind::Simple(name), rest)))
+    Some(length)
+}
+
+// A name at the front of the bytes, which is a whole symbol.
+fn read_name(alloc: Global, bytes: &[u8]) -> Result<Option<(TokenKind, &[u8])>, OutOfMemory>
+    requires { length bytes.now ≤ Text.LONGEST }
+    ensures { IfOk result (λ read. TokenRead read (simple_token (name_at bytes.now))) }
+{
+    let Some(length) = whole_name(bytes) else {
+        return Ok(None);
+    };
+    let name = upper_text(alloc, &bytes[..length])?;
+    Ok(Some((TokenKind::Simple(name), &bytes[length..])))
+}
+
+// An environment symbol, by all its bytes and those behind its period.
+fn read_environment<'a>(
+    alloc: Global,
+    bytes: &[u8],
+    behind: &'a [u8],
+) -> Result<Option<(TokenKind, &'a [u8])>, OutOfMemory>
+    requires short { length bytes.now ≤ Text.LONGEST }
+    requires period { bytes.now ≡ 46 ∷ behind.now }
+    ensures { IfOk result (λ read. TokenRead read (environment_token (name_at behind.now))) }
+{
+    let Some(length) = whole_name(behind) else {
+        return Ok(None);
+    };
+    let symbol = upper_text(alloc, &bytes[..length + 1])?;
+    Ok(Some((TokenKind::Environment(symbol), &behind[length..])))
+}
+
+fn is_quote(byte: u8) -> bool
+    ensures { result ≡ is_quote byte }
+{
+    matches!(byte, b'\'' | b'"')
 }
 
 // A string behind its opening quote.
@@ -112,26 +134,6 @@ fn read_string(
     Ok(None)
 }
 
-// `||` behind its first byte.
-fn read_join(behind: &[u8]) -> Option<(TokenKind, &[u8])>
-    ensures { TokenRead result (join_behind behind.now) }
-{
-    match behind {
-        [b'|', rest @ ..] => Some((TokenKind::Operator(Oper::Concat), rest)),
-        _ => None,
-    }
-}
-
-// `=`, where no further one follows.
-fn read_equal(behind: &[u8]) -> Option<(TokenKind, &[u8])>
-    ensures { TokenRead result (equal_behind behind.now) }
-{
-    match behind {
-        [b'=', ..] => None,
-        _ => Some((TokenKind::Operator(Oper::Equal), behind)),
-    }
-}
-
 /// The token at the front of the bytes, and the bytes behind it; none where no token begins so.
 pub fn read_token(alloc: Global, bytes: &[u8]) -> Result<Option<(TokenKind, &[u8])>, OutOfMemory>
     requires { length bytes.now ≤ Text.LONGEST }
@@ -140,10 +142,14 @@ pub fn read_token(alloc: Global, bytes: &[u8]) -> Result<Option<(TokenKind, &[u8
     let [first, behind @ ..] = bytes else {
         return Ok(None);
     };
-    match *first {
-        b'\'' | b'"' => read_string(alloc, *first, behind),
-        b'|' => Ok(read_join(behind)),
-        b'=' => Ok(read_equal(behind)),
-        _ => read_name(alloc, bytes),
+    if is_name_byte(*first) {
+        return read_name(alloc, bytes);
     }
+    if is_quote(*first) {
+        return read_string(alloc, *first, behind);
+    }
+    if *first == b'.' {
+        return read_environment(alloc, bytes, behind);
+    }
+    Ok(read_sign(*first, behind))
 }

@@ -1,9 +1,15 @@
 -- How a world stands: whether it goes on, how it has ended, and what its activities wait for.
-use Rattle.std.specs.Prelude.{ℕ, suc, nat_le, Bool, true, false, cond, ◌||◌, List, [], ◌∷◌, Option, None, Some}
-use Rattle.rx_tree.specs.World.{World, Activity, Wait, ForMessage, Ending, NoValue, Given, Failed}
+use Rattle.std.specs.Prelude.{ℕ, ◌+◌, nat_le, Bool, true, false, cond, ◌||◌, List, [], ◌∷◌, Option, None, Some, if◌then◌else◌}
+use Rattle.rx_tree.specs.declared.class.ClassDef.{ClassDef}
+use Rattle.rx_tree.specs.Frame.{Owner}
+use Rattle.rx_tree.specs.World.{World, Activity, Ending, NoValue, Given, Failed}
 use Rattle.rx_machine.specs.declared.end.End.{End}
 use Rattle.rx_machine.specs.declared.end.End.TheVariants.{Going, Finished, Stuck, Spent}
-use Rattle.rx_machine.specs.Enabled.{is_live, least_enabled}
+use Rattle.rx_machine.specs.declared.waits.Cause.{Cause}
+use Rattle.rx_machine.specs.declared.waits.Cause.TheVariants.{Pool}
+use Rattle.rx_machine.specs.declared.waits.WaitRow.{WaitRow}
+use Rattle.rx_machine.specs.Classes.{class_name}
+use Rattle.rx_machine.specs.Enabled.{is_live, least_enabled, asked, holder_before}
 
 abbrev pub any_live : List Activity → Bool
 any_live [] = false
@@ -19,29 +25,31 @@ end_among w true (Some a) = cond (nat_le w.budget w.steps) Spent Going
 abbrev pub end : World → End
 end w = end_among w (any_live w.activities) (least_enabled w)
 
--- What a live activity waits for.
-pub data Cause : Type 0 where
-  -- the Message of this object number
-  OfMessage : ℕ → Cause
+-- What an activity waits for: the pool that its top frame asks for, by its object and the name of its scope's class, and the
+-- activity that holds it.
+abbrev pub pool_cause : List ClassDef → Owner → ℕ → Cause
+pool_cause classes owner holder = Pool owner.object (class_name classes owner.scope.class) owner.scope.class_side holder
 
--- A row of what is waited for: an activity with its cause.
-pub record WaitRow : Type 0 where
-  pub activity : ℕ
-  pub cause : Cause
+abbrev pub cause_by : List ClassDef → Option Owner → Option ℕ → Option Cause
+cause_by classes None holder = None
+cause_by classes (Some owner) None = None
+cause_by classes (Some owner) (Some holder) = Some (pool_cause classes owner holder)
 
--- the row of an activity that waits, in front of others
-abbrev pub row_before : ℕ → Wait → List WaitRow → List WaitRow
-row_before a (ForMessage m) rows = record { activity = a; cause = OfMessage m } ∷ rows
-row_before a _ rows = rows
+abbrev pub cause_of : World → ℕ → Activity → Option Cause
+cause_of w a activity = cause_by w.program.classes (asked activity.frames) (holder_before w a activity)
 
-abbrev pub waits_from : ℕ → List Activity → List WaitRow
-waits_from a [] = []
-waits_from a (activity ∷ activities) =
-    cond (is_live activity.state) (row_before a activity.wait (waits_from (suc a) activities)) (waits_from (suc a) activities)
+abbrev pub row_before : ℕ → Option Cause → List WaitRow → List WaitRow
+row_before a None rows = rows
+row_before a (Some cause) rows = record { activity = a; cause = cause } ∷ rows
 
--- A row for each live activity, in ascending order.
-abbrev pub waits : World → List WaitRow
-waits w = waits_from 1 w.activities
+abbrev pub waits_from : World → ℕ → List Activity → List WaitRow
+waits_from w a [] = []
+waits_from w a (activity ∷ activities) =
+    if is_live activity.state then row_before a (cause_of w a activity) (waits_from w (a + 1) activities) else waits_from w (a + 1) activities
+
+-- A row for each live activity that waits, in ascending order. Where none is enabled, each live one does.
+unfoldable pub waits : World → List WaitRow
+waits w = waits_from w 1 w.activities
 
 -- The status of a Finished world: 249 where the main program ended by an error. It gives no value in the language that
 -- runs, so the status is else 0.

@@ -1,6 +1,7 @@
 -- The laws of runs that later proofs stand on, each a statement that a function of this crate carries.
-use Rattle.std.specs.Prelude.{◌≡◌, ◌≢◌, ◌<◌, ◌+◌, ℕ, Bool, false, List, [], ◌∷◌, ◌++◌, length, None, Some, IsTrue}
+use Rattle.std.specs.Prelude.{◌≡◌, ◌≢◌, ◌<◌, ◌+◌, ℕ, Bool, false, List, [], ◌∷◌, ◌++◌, length, Option, None, Some, IsTrue}
 use Rattle.rx_tree.specs.declared.note.Note.{Note}
+use Rattle.rx_tree.specs.declared.clause.Package.{Package}
 use Rattle.rx_tree.specs.World.{World}
 use Rattle.rx_machine.specs.Enabled.{enabled, robin}
 use Rattle.rx_machine.specs.Step.{step}
@@ -8,6 +9,8 @@ use Rattle.rx_machine.specs.declared.end.End.TheVariants.{Going}
 use Rattle.rx_machine.specs.End.{end}
 use Rattle.rx_machine.specs.Runs.{run, is_done, may_pick, legal, IsSerialAfter, last_of}
 use Rattle.rx_machine.specs.Input.{with_more}
+use Rattle.rx_machine.specs.Opening.{opening}
+use Rattle.rx_machine.specs.Sound.{Sound}
 
 -- A run goes on where it stood.
 abbrev pub RunsAppend : Type 0
@@ -77,3 +80,8 @@ pub record KeepsProgram (w later : World) : Type 0 where
 
 abbrev pub RunsKeepTheProgram : Type 0
 RunsKeepTheProgram = (w : World) (picks : List ℕ) → KeepsProgram w (run w picks)
+
+-- Each world of a run of legal picks is sound.
+abbrev pub WorldsAreSound : Type 0
+WorldsAreSound = (program : Package) (arg : Option (List ℕ)) (lines : List (List ℕ)) (ended : Bool) (budget : ℕ) (picks : List ℕ)
+    → IsTrue (legal (opening program arg lines ended budget) picks) → Sound (run (opening program arg lines ended budget) picks)

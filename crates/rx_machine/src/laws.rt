@@ -1,5 +1,5 @@
 // Laws of the machine. A function here has nothing to do: its contract is the law.
-ghost use Rattle.rx_machine.specs.Laws.{GoingHasANext, GoingIsBelowBudget, LegalPicksExtend, MoreInputKeepsRuns, MoreInputKeepsTheCircle, NoActivityZero, NotesGrow, OutputGrows, PicksAreEnabled, RobinIsEnabled, RunsAppend, RunsKeepTheProgram, SerialPicksExtend, StepsArePicks};
+ghost use Rattle.rx_machine.specs.Laws.{GoingHasANext, GoingIsBelowBudget, LegalPicksExtend, MoreInputKeepsRuns, MoreInputKeepsTheCircle, NoActivityZero, NotesGrow, OutputGrows, PicksAreEnabled, RobinIsEnabled, RunsAppend, RunsKeepTheProgram, SerialPicksExtend, StepsArePicks, WorldsAreSound};
 
 /// A run goes on where it stood.
 pub fn runs_append()
@@ -69,4 +69,9 @@ pub fn notes_grow()
 /// A run keeps its program, argument and budget.
 pub fn runs_keep_the_program()
     ensures law { RunsKeepTheProgram }
+{}
+
+/// Each world of a run of legal picks is sound: a pool has one holder at most.
+pub fn worlds_are_sound()
+    ensures law { WorldsAreSound }
 {}

@@ -5,13 +5,14 @@
 #![tactic(auto)]
 
 mod end;
-mod evaluated;
 mod laws;
+mod waits;
 
 pub use end::End;
-pub use evaluated::Evaluated;
 pub use laws::{
     going_has_a_next, going_is_below_budget, legal_picks_extend, more_input_keeps_runs,
     more_input_keeps_the_circle, no_activity_zero, notes_grow, output_grows, picks_are_enabled,
     robin_is_enabled, runs_append, runs_keep_the_program, serial_picks_extend, steps_are_picks,
+    worlds_are_sound,
 };
+pub use waits::{Cause, WaitRow};

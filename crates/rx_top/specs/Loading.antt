@@ -1,6 +1,7 @@
 -- What the file of a program has.
 use Rattle.std.specs.Prelude.{ℕ, List, Option}
 use Rattle.rx_tree.specs.declared.clause.Package.{Package}
+use Rattle.rx_tree.specs.Valid.{IsValid}
 use Rattle.rx_ports.specs.Shelves.{Files, HasFile}
 use Rattle.rx_lines.specs.Programs.{IsProgram}
 use Rattle.rx_top.specs.declared.loading.Loaded.{Loaded}
@@ -24,3 +25,10 @@ IsLoaded files name (Found program) = HasProgram files name program
 IsLoaded files name NoProgram = HasNoProgram files name
 IsLoaded files name ShelfFault = Unit {0}
 IsLoaded files name NoMemory = Unit {0}
+
+-- a program that is found meets what every run asks of it
+abbrev pub IsValidIfFound : Loaded → Type 0
+IsValidIfFound (Found program) = IsValid program
+IsValidIfFound NoProgram = Unit {0}
+IsValidIfFound ShelfFault = Unit {0}
+IsValidIfFound NoMemory = Unit {0}

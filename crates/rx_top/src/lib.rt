@@ -5,12 +5,14 @@
 
 mod call;
 mod conclusion;
+mod digits;
 mod loading;
 mod playing;
 mod report;
 mod running;
 mod telling;
 mod top;
+mod waits;
 mod words;
 
 pub use call::rexx_call;

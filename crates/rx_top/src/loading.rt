@@ -1,7 +1,7 @@
 // The program of a file.
 ghost use Rattle.std.specs.Prelude.{◌≡◌};
 ghost use Rattle.rx_ports.specs.Causes.{HasCause};
-ghost use Rattle.rx_top.specs.Loading.{IsLoaded};
+ghost use Rattle.rx_top.specs.Loading.{IsLoaded, IsValidIfFound};
 
 use rx_lines::read_program;
 use rx_ports::{Fetched, Shelf};
@@ -24,6 +24,7 @@ const ASKED: usize = 4_194_305;
 /// The program of a file, if its source is one.
 pub fn load<F: Shelf>(alloc: Global, shelf: &mut F, name: &[u8]) -> Loaded
     ensures loaded { IsLoaded (F.files shelf.old) name.now result }
+    ensures valid { IsValidIfFound result }
     ensures kept { F.files shelf.new ≡ F.files shelf.old }
     ensures cause { HasCause (F.faults shelf.old) (F.faults shelf.new) (result ≡ Loaded.ShelfFault) }
 {

@@ -1,5 +1,6 @@
 // A whole run of a program.
 ghost use Rattle.std.specs.Prelude.{◌≡◌, ◌<◌, ℕ, List, IfOk};
+ghost use Rattle.rx_tree.specs.Valid.{IsValid};
 ghost use Rattle.rx_top.specs.Runs.{IsRunOf};
 
 use crate::conclusion::Conclusion;
@@ -18,12 +19,13 @@ fn play_with<L: Ledger>(
     program: Package,
     budget: u64,
 ) -> Result<Conclusion, OutOfMemory>
+    requires valid { IsValid program }
     requires name { blank.name ≡ L.name }
     requires parts { blank.parts ≡ L.parts }
     requires some { 0 < blank.parts }
     ensures run { IfOk result (λ told. (input : List ℕ) → IsRunOf program budget input told) }
 {
-    let mut kernel = Kernel::begin(alloc, program, budget);
+    let mut kernel = Kernel::begin(alloc, program, budget)?;
     let schedule = run_serial(alloc, &mut kernel, &mut Steps::<L>::new(blank))?;
     let report = report_of(alloc, &kernel)?;
     Ok(Conclusion {
@@ -38,6 +40,7 @@ fn play_with<L: Ledger>(
 /// Runs a program to its end, and gives what there is to tell of it; or want of memory. No step reads input, so it is the
 /// same run whatever the input.
 pub fn play(alloc: Global, program: Package, budget: u64) -> Result<Conclusion, OutOfMemory>
+    requires valid { IsValid program }
     ensures run { IfOk result (λ told. (input : List ℕ) → IsRunOf program budget input told) }
 {
     play_with::<Brand>(alloc, Blank::new(1), program, budget)

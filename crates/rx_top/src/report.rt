@@ -1,31 +1,14 @@
 // The lines of the report.
-ghost use Rattle.std.specs.Prelude.{◌≡◌, ◌++◌, decimal, IfOk, OnOk};
-ghost use Rattle.rx_machine.specs.End.{end};
-ghost use Rattle.rx_machine.specs.Texts.{three_digits, note_text, note_lines, budget_line, end_text, err_text};
+ghost use Rattle.std.specs.Prelude.{◌≡◌, ◌++◌, IfOk, OnOk};
+ghost use Rattle.rx_machine.specs.End.{end, waits};
+ghost use Rattle.rx_machine.specs.Texts.{note_text, note_lines, wait_lines, budget_line, end_text, err_text};
 
-use itoa::Buffer;
+use crate::digits::{push_number, push_three_digits};
+use crate::waits::push_waits;
 use rx_kernel::Kernel;
 use rx_machine::End;
-use rx_tree::Note;
+use rx_tree::{Note, OutOfMemory};
 use std::alloc::{AllocError, Global};
-
-// Appends a number's three digits.
-fn push_three_digits(text: &mut Vec<u8>, number: u8) -> Result<(), AllocError>
-    ensures { OnOk result (text.new.items ≡ text.old.items ++ three_digits number) }
-{
-    text.push(b'0' + number / 100)?;
-    text.push(b'0' + number / 10 % 10)?;
-    text.push(b'0' + number % 10)?;
-    Ok(())
-}
-
-// Appends a number in decimal digits.
-fn push_number(text: &mut Vec<u8>, number: u64) -> Result<(), AllocError>
-    ensures { OnOk result (text.new.items ≡ text.old.items ++ decimal number) }
-{
-    let mut buffer = Buffer::new();
-    text.extend_from_slice(buffer.format(number).as_bytes())
-}
 
 // Appends the line of an error.
 fn push_error(text: &mut Vec<u8>, number: u8, line: u32, activity: u32) -> Result<(), AllocError>
@@ -75,21 +58,32 @@ fn push_budget_line(text: &mut Vec<u8>, budget: u64) -> Result<(), AllocError>
     Ok(())
 }
 
-// Appends what the report says of how a run ended.
-fn push_end(text: &mut Vec<u8>, kernel: &Kernel) -> Result<(), AllocError>
+// Appends what each live activity of a halted run waits for, or wants memory.
+fn push_halt(alloc: Global, text: &mut Vec<u8>, kernel: &Kernel) -> Result<(), OutOfMemory>
+    ensures { OnOk result (text.new.items ≡ text.old.items ++ wait_lines (waits kernel.now)) }
+{
+    let rows = kernel.waits(alloc)?;
+    push_waits(text, rows.as_slice())?;
+    Ok(())
+}
+
+// Appends what the report says of how a run ended, or wants memory.
+fn push_end(alloc: Global, text: &mut Vec<u8>, kernel: &Kernel) -> Result<(), OutOfMemory>
     ensures { OnOk result (text.new.items ≡ text.old.items ++ end_text kernel.now (end kernel.now)) }
 {
     match kernel.finish() {
-        End::Spent => push_budget_line(text, kernel.budget()),
-        End::Going | End::Finished | End::Stuck => Ok(()),
+        End::Stuck => push_halt(alloc, text, kernel)?,
+        End::Spent => push_budget_line(text, kernel.budget())?,
+        End::Going | End::Finished => {}
     }
+    Ok(())
 }
 
 /// What the report says of a run, or want of memory.
-pub fn report_of(alloc: Global, kernel: &Kernel) -> Result<Vec<u8>, AllocError>
+pub fn report_of(alloc: Global, kernel: &Kernel) -> Result<Vec<u8>, OutOfMemory>
     ensures { IfOk result (λ report. report.items ≡ err_text kernel.now) }
 {
     let mut report = notes_text(alloc, kernel.notes())?;
-    push_end(&mut report, kernel)?;
+    push_end(alloc, &mut report, kernel)?;
     Ok(report)
 }

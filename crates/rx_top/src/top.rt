@@ -41,17 +41,28 @@ fn fulfil<F: Shelf>(alloc: Global, asks: &Request, shelf: &mut F) -> Result<Conc
     }
 }
 
+// What the words come to, or want of memory.
+fn answer<F: Shelf>(
+    alloc: Global,
+    words: &[Vec<u8>],
+    shelf: &mut F,
+) -> Result<Conclusion, OutOfMemory>
+    ensures conclusion { IfOk result (Concludes (map (λ word. word.items) words.now) (F.files shelf.old) (F.faults shelf.old) (F.faults shelf.new)) }
+    ensures files { F.files shelf.new ≡ F.files shelf.old }
+{
+    match read_words(alloc, words) {
+        Ok(asks) => fulfil(alloc, &asks, shelf),
+        Err(WordsRefused::NotARequest) => Conclusion::refused(alloc, 243, b"REX243 words\n"),
+        Err(WordsRefused::OutOfMemory) => Err(OutOfMemory),
+    }
+}
+
 // What the words come to.
 fn conclude<F: Shelf>(alloc: Global, words: &[Vec<u8>], shelf: &mut F) -> Conclusion
     ensures conclusion { Concludes (map (λ word. word.items) words.now) (F.files shelf.old) (F.faults shelf.old) (F.faults shelf.new) result }
     ensures files { F.files shelf.new ≡ F.files shelf.old }
 {
-    let told = match read_words(alloc, words) {
-        Ok(asks) => fulfil(alloc, &asks, shelf),
-        Err(WordsRefused::NotARequest) => Conclusion::refused(alloc, 243, b"REX243 words\n"),
-        Err(WordsRefused::OutOfMemory) => Err(OutOfMemory),
-    };
-    match told {
+    match answer(alloc, words, shelf) {
         Ok(told) => told,
         Err(_) => Conclusion::silent(alloc, 247),
     }

@@ -6,6 +6,7 @@ pub mod Marks
 pub mod Comments
 pub mod Pieces
 pub mod Spelling
+pub mod Valid
 pub mod Object
 pub mod Frame
 pub mod World

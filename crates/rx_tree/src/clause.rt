@@ -1,6 +1,6 @@
 // Clauses, bodies and packages.
 use crate::class::ClassDef;
-use crate::expr::Expr;
+use crate::expr::{Expr, Term};
 use crate::name::Name;
 use crate::text::Text;
 use sqlite_items::Items;
@@ -14,6 +14,14 @@ pub enum ClauseKind {
     Assign(Name, Expr),
     /// `NOP`, which does nothing.
     Nop,
+    /// `RETURN`, with the expression whose value is given, if there is one.
+    Return(Option<Expr>),
+    /// `EXPOSE`, with the names that it exposes.
+    Expose(Items<Name>),
+    /// `USE ARG`, with the variables that take the arguments in order.
+    UseArg(Items<Name>),
+    /// A message clause, whose term sends a message at least.
+    Message(Term),
 }
 
 /// A clause, with the line of the source that it begins on, from 1.

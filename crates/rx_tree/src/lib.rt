@@ -11,6 +11,7 @@ mod crossing;
 mod expr;
 mod name;
 mod note;
+mod sent;
 mod steps;
 mod text;
 mod token;
@@ -23,9 +24,10 @@ pub use crossing::{
     caught_crosses, derived_crosses, note_crosses, outcome_crosses, package_crosses, text_crosses,
     token_crosses, value_crosses,
 };
-pub use expr::Expr;
+pub use expr::{Expr, Operand, SendPart, Term};
 pub use name::{Derived, Name, Part, Place};
 pub use note::Note;
+pub use sent::Sent;
 pub use steps::Steps;
 pub use text::{OutOfMemory, Text};
 pub use token::{Oper, Token, TokenKind};

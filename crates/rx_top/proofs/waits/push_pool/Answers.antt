@@ -1,0 +1,16 @@
+use Rattle.std.proofs.Common.{append_assoc}
+use Rattle.rx_top.proofs.waits.push_pool.Goals as goal
+
+pub returns : goal.returns
+returns c =
+    rw (
+      c.in_ok-push_number-2.ensures,
+      c.from-2.ensures,
+      c.in_ok-extend_from_slice-3.ensures.items,
+      c.in_ok-push_side.ensures,
+      c.in_ok-extend_from_slice-2.ensures.items,
+      c.in_ok-push.ensures.items,
+      c.in_ok-push_number.ensures,
+      c.from.ensures,
+      c.in_ok-extend_from_slice.ensures.items,
+    ) (simp append_assoc)
