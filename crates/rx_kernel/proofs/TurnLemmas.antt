@@ -9,7 +9,7 @@ use Rattle.rx_tree.specs.World as world
 use Rattle.rx_tree.specs.World.{World}
 use Rattle.rx_machine.specs.Enabled.{activity_at, with_activity}
 use Rattle.rx_machine.specs.Sending.{first_sent}
-use Rattle.rx_kernel.specs.declared.sending.First.TheVariants.{Sent}
+use Rattle.rx_kernel.specs.declared.starting.First.TheVariants.{Sent}
 use Rattle.rx_kernel.specs.Firsts.{IsFirst}
 use Rattle.rx_machine.specs.Step.{Done, step, step_activity, step_frames}
 use Rattle.rx_kernel.specs.declared.frame.Caller.{Caller}

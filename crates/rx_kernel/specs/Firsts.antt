@@ -4,8 +4,8 @@ use Rattle.rx_tree.specs.declared.clause.Package.{Package}
 use Rattle.rx_tree.specs.World.{Activity}
 use Rattle.rx_machine.specs.Sending.{first_sent}
 use Rattle.rx_kernel.specs.declared.parts.Parts.{Parts}
-use Rattle.rx_kernel.specs.declared.sending.First.{First}
-use Rattle.rx_kernel.specs.declared.sending.First.TheVariants as first
+use Rattle.rx_kernel.specs.declared.starting.First.{First}
+use Rattle.rx_kernel.specs.declared.starting.First.TheVariants as first
 use Rattle.rx_kernel.specs.Worlds.{world_with, begun_after, Leads}
 
 -- its message was sent; or there is none, and nothing was done

@@ -3,7 +3,7 @@ ghost use Rattle.std.specs.Prelude.{◌≡◌, ◌∷◌, ℕ, List, [], IfOk, O
 ghost use Rattle.rx_tree.specs.declared.clause.Package.{Package};
 ghost use Rattle.rx_tree.specs.Frame as machine;
 ghost use Rattle.rx_tree.specs.Frame.{Todo};
-ghost use Rattle.rx_tree.specs.World.{World, Activity};
+ghost use Rattle.rx_tree.specs.World.{Activity};
 ghost use Rattle.rx_machine.specs.Messages.{completed};
 ghost use Rattle.rx_machine.specs.Ending.{gives, ended, given_beneath};
 ghost use Rattle.rx_machine.specs.Messages.{result_of};

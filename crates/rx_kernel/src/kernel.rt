@@ -1,5 +1,5 @@
 // The machine's state while a program runs.
-ghost use Rattle.std.specs.Prelude.{◌≡◌, ◌≢◌, ℕ, List, [], false, None, IfOk, OnOk, IsTrue, length};
+ghost use Rattle.std.specs.Prelude.{◌≡◌, ◌≢◌, List, [], false, None, IfOk, OnOk, IsTrue, length};
 ghost use Rattle.rx_tree.specs.Valid.{IsValid};
 ghost use Rattle.rx_tree.specs.declared.clause.Package.{Package};
 ghost use Rattle.rx_tree.specs.World as world;

@@ -1,5 +1,4 @@
 // The method that a message comes to.
-ghost use Rattle.std.specs.Prelude.{◌≡◌};
 ghost use Rattle.rx_machine.specs.Sending.{native_method, class_method, message_method, method_or_native, method_of_object, method_for};
 ghost use Rattle.rx_machine.specs.Classes.{method_of, object_at};
 ghost use Rattle.rx_kernel.specs.Methods.{IsMethod};

@@ -1,5 +1,5 @@
 // Operands, and the messages of terms.
-ghost use Rattle.std.specs.Prelude.{◌≡◌, ◌+◌, List, drop, map, Some, IfOk};
+ghost use Rattle.std.specs.Prelude.{◌≡◌, ◌+◌, drop, map, Some, IfOk};
 ghost use Rattle.std.specs.Option.{option_copied};
 ghost use Rattle.rx_tree.specs.declared.name.Derived.TheVariants.{Simple};
 ghost use Rattle.rx_machine.specs.Variables.{value_in, rows_at, home, value_of};

@@ -1,11 +1,10 @@
 // The parts of a run, who may step, and the step.
-ghost use Rattle.std.specs.Prelude.{◌≡◌, ◌+◌, ◌<◌, ◌∷◌, ℕ, List, [], drop, length, ◌==◌, ◌&&◌, not, IfOk, OnOk};
+ghost use Rattle.std.specs.Prelude.{◌≡◌, ◌+◌, ◌<◌, drop, length, ◌==◌, ◌&&◌, not};
 ghost use Rattle.rx_tree.specs.declared.clause.Package.{Package};
 ghost use Rattle.rx_tree.specs.World.{World};
-ghost use Rattle.rx_machine.specs.Enabled.{holder_from, holder_before, may_step, enabled, least_from, least_enabled, robin};
+ghost use Rattle.rx_machine.specs.Enabled.{holder_from, holder_before, may_step, enabled, least_from, robin};
 ghost use Rattle.rx_machine.specs.Pools.{holds};
 ghost use Rattle.rx_machine.specs.End.{any_live, end_among, end};
-ghost use Rattle.rx_machine.specs.Step.{step, Done};
 ghost use Rattle.rx_kernel.specs.Activities.{activity_of, activities_of};
 ghost use Rattle.rx_kernel.specs.Frames.{owner};
 ghost use Rattle.rx_kernel.specs.States.{world_of};

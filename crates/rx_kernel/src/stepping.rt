@@ -1,5 +1,5 @@
 // A step of an activity that has frames.
-ghost use Rattle.std.specs.Prelude.{◌≡◌, ◌+◌, ◌∷◌, List, map, drop, slice_get, Some, None, IfOk};
+ghost use Rattle.std.specs.Prelude.{◌≡◌, ◌+◌, ◌∷◌, map, drop, slice_get, Some, None, IfOk};
 ghost use Rattle.rx_tree.specs.declared.expr.Operand.TheVariants.{Hole};
 ghost use Rattle.rx_tree.specs.declared.clause.Package.{Package};
 ghost use Rattle.rx_tree.specs.Frame.{Whole};

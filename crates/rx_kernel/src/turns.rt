@@ -1,7 +1,6 @@
 // A step of the activity of a number.
-ghost use Rattle.std.specs.Prelude.{◌≡◌, ◌<◌, ◌≤◌, ◌∷◌, List, [], length, slice_get, slice_set, Some, OnOk};
+ghost use Rattle.std.specs.Prelude.{◌≡◌, ◌<◌, ◌≤◌, ◌∷◌, length, slice_get, slice_set, Some, OnOk};
 ghost use Rattle.rx_tree.specs.declared.clause.Package.{Package};
-ghost use Rattle.rx_tree.specs.World.{World};
 ghost use Rattle.rx_machine.specs.Sending.{first_sent};
 ghost use Rattle.rx_machine.specs.Step.{step, step_frames, Done};
 ghost use Rattle.rx_kernel.specs.Frames.{after, top_frame, frames_of};
@@ -12,7 +11,7 @@ ghost use Rattle.rx_kernel.specs.States.{world_of, running, Turns, IsCounted};
 use crate::activity::Activity;
 use crate::callers::Callers;
 use crate::frame::{Next, Top};
-use crate::sending::First;
+use crate::starting::First;
 use crate::state::State;
 use rx_tree::OutOfMemory;
 use std::alloc::Global;

@@ -245,7 +245,8 @@ abbrev pub first_without : World → ℕ → Activity → ℕ → List (Option V
 first_without w a activity message [] answer = given_beneath (completed w (Some message) (result_of answer)) a activity [] answer
 first_without w a activity message (arg ∷ args) answer = first_refused w a activity message 93
 
--- what becomes of the first message: INIT is the only native method that one of the language that runs can come to
+-- what becomes of the first message: START's name is that of a method of the source, so INIT is the only native method that
+-- it can come to
 abbrev pub first_performed : World → ℕ → Activity → ℕ → Sending → Method → World
 first_performed w a activity message sending (OfClass class method) =
     pushed w a activity [] (number_of sending.target) class method sending.args (Some message) false
