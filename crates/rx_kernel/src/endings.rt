@@ -15,7 +15,7 @@ ghost use Rattle.rx_kernel.specs.declared.frame.Caller.{Caller};
 ghost use Rattle.rx_kernel.specs.Worlds.{world_with, begun_after, Leads};
 
 use crate::callers::Callers;
-use crate::frame::{Caller, Frame, Next, Progress, Top};
+use crate::frame::{Caller, Frame, Next};
 use crate::parts::Parts;
 use rx_tree::{Note, OutOfMemory, Outcome, Value};
 
@@ -158,11 +158,7 @@ pub fn reply(caller: Caller, answer: Option<Value>) -> Next
         → Leads program parts parts a callers result (λ w activity. replied w a activity (caller_frame program caller) (frames_of program callers) answer) }
     ensures begun { (begun : ℕ) → begun ≡ begun_after begun result }
 {
-    let Caller { frame, place } = caller;
-    Next::Top(Top {
-        frame,
-        progress: Progress::Answered(place, answer),
-    })
+    Next::Top(caller.answered(answer))
 }
 
 /// What an ended frame gave goes to the frame beneath. Without one the activity is over.

@@ -1,4 +1,6 @@
 // Frames: what an activity is in the middle of.
+ghost use Rattle.std.specs.Prelude.{◌≡◌};
+
 use crate::buffer::TextBuffer;
 use rx_store::{Exposures, Variables};
 use rx_tree::Value;
@@ -12,7 +14,6 @@ pub struct Own {
 }
 
 /// A frame, but for how far it is in its present clause.
-#[derive(Drop)]
 pub struct Frame {
     /// The number of its method's body. The main program's frame has none.
     pub body: Option<u32>,
@@ -29,6 +30,23 @@ pub struct Frame {
     pub completes: Option<u32>,
     /// Whether NEW began it as INIT.
     pub made: bool,
+}
+
+impl Drop for Frame {
+    fn drop(self) {
+        let Frame {
+            body: _,
+            at: _,
+            variables: _,
+            exposures: _,
+            own: _,
+            arguments: _,
+            reserves: _,
+            asks: _,
+            completes: _,
+            made: _,
+        } = self;
+    }
 }
 
 /// What was joined of an expression, in front of the term that is present.
@@ -49,10 +67,15 @@ pub struct Place {
 }
 
 /// A frame that has called, and waits for the answer.
-#[derive(Drop)]
 pub struct Caller {
     pub frame: Frame,
     pub place: Place,
+}
+
+impl Drop for Caller {
+    fn drop(self) {
+        let Caller { frame: _, place: _ } = self;
+    }
 }
 
 /// How far the top frame is in its present clause.
@@ -80,4 +103,18 @@ pub enum Next {
     Started(Top, u32),
     /// Nothing: the activity is over.
     Over,
+}
+
+impl Caller {
+    /// It has its answer, or none with a value, and goes on.
+    pub fn answered(self, answer: Option<Value>) -> Top
+        ensures frame { result.frame ≡ self.frame }
+        ensures progress { result.progress ≡ Progress.Answered self.place answer }
+    {
+        let Caller { frame, place } = self;
+        Top {
+            frame,
+            progress: Progress::Answered(place, answer),
+        }
+    }
 }

@@ -5,7 +5,6 @@ use rx_store::{Objects, Pools};
 use rx_tree::Note;
 
 /// What all activities of a run share, the program apart.
-#[derive(Drop)]
 pub struct Parts {
     pub objects: Objects,
     pub pools: Pools,
@@ -19,6 +18,21 @@ pub struct Parts {
     pub budget: u64,
 }
 
+impl Drop for Parts {
+    fn drop(self) {
+        let Parts {
+            objects: _,
+            pools: _,
+            begun: _,
+            output: _,
+            notes: _,
+            failed: _,
+            steps: _,
+            budget: _,
+        } = self;
+    }
+}
+
 impl Parts {
     /// A step more is counted.
     pub fn count(&mut self)
@@ -29,5 +43,22 @@ impl Parts {
         let steps = self.steps;
         prove!(steps < budget);
         self.steps = steps + 1;
+    }
+
+    /// What was said, where nothing else is wanted any more.
+    pub fn into_output(self) -> Vec<u8>
+        ensures { result ≡ self.output }
+    {
+        let Parts {
+            objects: _,
+            pools: _,
+            begun: _,
+            output,
+            notes: _,
+            failed: _,
+            steps: _,
+            budget: _,
+        } = self;
+        output
     }
 }

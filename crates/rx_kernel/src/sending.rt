@@ -185,11 +185,7 @@ impl Parts {
             (λ w activity. performed w a activity (caller_frame program.now caller) (frames_of program.now callers.old) line sent found)) }
         ensures begun { IfOk result (λ next. self.new.begun ≡ begun_after self.old.begun next) }
     {
-        let Sent {
-            target,
-            name: _,
-            args,
-        } = sent;
+        let (target, args) = sent.into_target_and_args();
         let object = number_of(&target);
         match method {
             Method::OfClass(class, body, guarded) => {

@@ -12,7 +12,7 @@ ghost use Rattle.rx_kernel.specs.Methods.{IsMethod};
 ghost use Rattle.rx_kernel.specs.declared.frame.Caller.{Caller};
 
 use crate::callers::Callers;
-use crate::frame::{Caller, Next, Own, Progress, Top};
+use crate::frame::{Caller, Next, Own};
 use crate::methods::{Method, method_for};
 use crate::parts::Parts;
 use crate::sending::{Call, number_of};
@@ -81,11 +81,7 @@ impl Parts {
         }
         let message = self.objects.make_message(target, name, args)?;
         self.begun += 1;
-        let Caller { frame, place } = caller;
-        let top = Top {
-            frame,
-            progress: Progress::Answered(place, Some(Value::Ref(message))),
-        };
+        let top = caller.answered(Some(Value::Ref(message)));
         Ok(Next::Started(top, message))
     }
 
@@ -154,11 +150,7 @@ impl Parts {
             → Leads program self.old self.new a [] next (λ w activity. first_performed w a activity message sending found)) }
         ensures begun { IfOk result (λ next. self.new.begun ≡ begun_after self.old.begun next) }
     {
-        let Sent {
-            target,
-            name: _,
-            args,
-        } = sent;
+        let (target, args) = sent.into_target_and_args();
         match method {
             Method::OfClass(class, body, guarded) => {
                 let call = Call {

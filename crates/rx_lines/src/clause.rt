@@ -35,10 +35,7 @@ fn read_message(alloc: Global, tokens: &[TokenKind]) -> Result<Option<ClauseKind
     ensures { IfOk result (λ found. found ≡ message_with (expr_of tokens.now)) }
 {
     match read_expr(alloc, tokens)? {
-        Some(expr) if is_message(&expr) => {
-            let Expr { first, joined: _ } = expr;
-            Ok(Some(ClauseKind::Message(first)))
-        }
+        Some(expr) if is_message(&expr) => Ok(Some(ClauseKind::Message(expr.into_first()))),
         _ => Ok(None),
     }
 }

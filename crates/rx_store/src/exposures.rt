@@ -10,9 +10,14 @@ use std::marker::Model;
 
 /// Exposed names, each with the place where it lives, in the order in which they were exposed. Contracts see the list of
 /// them.
-#[derive(Drop)]
 pub struct Exposures {
     places: IndexMap<Vec<u8>, Place>,
+}
+
+impl Drop for Exposures {
+    fn drop(self) {
+        let Exposures { places: _ } = self;
+    }
 }
 
 impl Model for Exposures {

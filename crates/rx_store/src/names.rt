@@ -9,9 +9,14 @@ use std::marker::Model;
 
 /// Names with their numbers, of which the first that a name was given counts. Contracts see the list of both, in the
 /// order in which they were added.
-#[derive(Drop)]
 pub struct Names {
     numbers: IndexMap<Vec<u8>, usize>,
+}
+
+impl Drop for Names {
+    fn drop(self) {
+        let Names { numbers: _ } = self;
+    }
 }
 
 impl Model for Names {

@@ -59,9 +59,14 @@ impl Kept {
 }
 
 /// The objects, which have the numbers of their places from 1: at most 1,048,576. Contracts see the list of them.
-#[derive(Drop)]
 pub struct Objects {
     entries: Vec<Entry>,
+}
+
+impl Drop for Objects {
+    fn drop(self) {
+        let Objects { entries: _ } = self;
+    }
 }
 
 impl Model for Objects {

@@ -14,10 +14,15 @@ use std::marker::Model;
 
 /// The pools of objects' variables: each of the instance side of a class, in the order in which they were made, with the
 /// numbers of their places from 0. Contracts see the list of them.
-#[derive(Drop)]
 pub struct Pools {
     // By the numbers of the object and of the class.
     pools: IndexMap<(u32, u32), Variables>,
+}
+
+impl Drop for Pools {
+    fn drop(self) {
+        let Pools { pools: _ } = self;
+    }
 }
 
 impl Model for Pools {

@@ -16,12 +16,21 @@ use std::marker::Model;
 const FIRST_CLASS: usize = 9;
 
 /// The program that runs, with tables that find its classes and methods by their names. Contracts see the program.
-#[derive(Drop)]
 pub struct Program {
     package: Package,
     // The object numbers of the classes, and for each class the places of its methods.
     classes: Names,
     methods: Items<Names>,
+}
+
+impl Drop for Program {
+    fn drop(self) {
+        let Program {
+            package: _,
+            classes: _,
+            methods: _,
+        } = self;
+    }
 }
 
 impl Model for Program {

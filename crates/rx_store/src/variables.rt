@@ -11,9 +11,14 @@ use std::marker::Model;
 
 /// Simple variables with their values, in the order in which they were first assigned. Contracts see the list of their
 /// rows.
-#[derive(Drop)]
 pub struct Variables {
     values: IndexMap<Vec<u8>, Value>,
+}
+
+impl Drop for Variables {
+    fn drop(self) {
+        let Variables { values: _ } = self;
+    }
 }
 
 impl Model for Variables {

@@ -1,5 +1,5 @@
 // What a call has to tell.
-ghost use Rattle.std.specs.Prelude.{ℕ, List, [], IfOk};
+ghost use Rattle.std.specs.Prelude.{◌≡◌, ℕ, List, [], IfOk};
 ghost use Rattle.rx_top.specs.Conclusions.{RanNothing};
 
 use rx_tree::OutOfMemory;
@@ -7,13 +7,24 @@ use std::alloc::Global;
 
 /// What a call has to tell: the status that it ends with, the steps and the schedule that it gives back, and the bytes
 /// for standard output and standard error.
-#[derive(Drop)]
 pub struct Conclusion {
     pub status: u8,
     pub steps: u64,
     pub schedule: Vec<u32>,
     pub output: Vec<u8>,
     pub report: Vec<u8>,
+}
+
+impl Drop for Conclusion {
+    fn drop(self) {
+        let Conclusion {
+            status: _,
+            steps: _,
+            schedule: _,
+            output: _,
+            report: _,
+        } = self;
+    }
 }
 
 impl Conclusion {
@@ -23,8 +34,11 @@ impl Conclusion {
     {
         let report = Vec::from_slice(alloc, line)?;
         Ok(Conclusion {
+            status,
+            steps: 0,
+            schedule: Vec::new(alloc),
+            output: Vec::new(alloc),
             report,
-            ..Conclusion::silent(alloc, status)
         })
     }
 
@@ -39,5 +53,19 @@ impl Conclusion {
             output: Vec::new(alloc),
             report: Vec::new(alloc),
         }
+    }
+
+    /// The schedule, where nothing else is wanted any more.
+    pub fn into_schedule(self) -> Vec<u32>
+        ensures { result.items ≡ self.schedule.items }
+    {
+        let Conclusion {
+            status: _,
+            steps: _,
+            schedule,
+            output: _,
+            report: _,
+        } = self;
+        schedule
     }
 }

@@ -14,7 +14,6 @@ use rx_tree::OutOfMemory;
 use std::alloc::Global;
 
 /// What a call gives back.
-#[derive(Drop)]
 pub struct Ended<F, I, O, E> {
     /// The exit status.
     pub status: u8,
@@ -26,6 +25,20 @@ pub struct Ended<F, I, O, E> {
     pub input: I,
     pub out: O,
     pub err: E,
+}
+
+impl<F: Drop, I: Drop, O: Drop, E: Drop> Drop for Ended<F, I, O, E> {
+    fn drop(self) {
+        let Ended {
+            status: _,
+            steps: _,
+            schedule: _,
+            shelf: _,
+            input: _,
+            out: _,
+            err: _,
+        } = self;
+    }
 }
 
 // Does what a request asks for, or wants memory.
@@ -108,7 +121,7 @@ pub fn rexx_plain<F: Shelf, I: Source, O: Sink, E: Sink>(
     Ended {
         status,
         steps: told.steps,
-        schedule: told.schedule,
+        schedule: told.into_schedule(),
         shelf,
         input,
         out,

@@ -34,12 +34,21 @@ pub enum Condition {
 }
 
 /// The condition that a frame trapped last.
-#[derive(Drop)]
 pub struct Caught {
     pub name: Text,
     pub detail: Text,
     /// Whether a trap of `CALL ON` took it, not one of `SIGNAL ON`.
     pub by_call: bool,
+}
+
+impl Drop for Caught {
+    fn drop(self) {
+        let Caught {
+            name: _,
+            detail: _,
+            by_call: _,
+        } = self;
+    }
 }
 
 /// What a Message object's message has come to.

@@ -12,7 +12,6 @@ pub struct Scope {
 }
 
 /// A method of a class.
-#[derive(Drop)]
 pub struct MethodDef {
     /// The name, in upper case.
     pub name: Text,
@@ -24,8 +23,19 @@ pub struct MethodDef {
     pub guarded: bool,
 }
 
+impl Drop for MethodDef {
+    fn drop(self) {
+        let MethodDef {
+            name: _,
+            body: _,
+            class_side: _,
+            private: _,
+            guarded: _,
+        } = self;
+    }
+}
+
 /// A class of a source.
-#[derive(Drop)]
 pub struct ClassDef {
     /// The name, in upper case.
     pub name: Text,
@@ -37,4 +47,17 @@ pub struct ClassDef {
     /// The names of the mixins that it inherits, in the written order.
     pub inherits: Items<Text>,
     pub methods: Items<MethodDef>,
+}
+
+impl Drop for ClassDef {
+    fn drop(self) {
+        let ClassDef {
+            name: _,
+            line: _,
+            parent: _,
+            mixin: _,
+            inherits: _,
+            methods: _,
+        } = self;
+    }
 }

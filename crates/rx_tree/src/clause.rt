@@ -25,20 +25,29 @@ pub enum ClauseKind {
 }
 
 /// A clause, with the line of the source that it begins on, from 1.
-#[derive(Drop)]
 pub struct Clause {
     pub line: u32,
     pub kind: ClauseKind,
 }
 
+impl Drop for Clause {
+    fn drop(self) {
+        let Clause { line: _, kind: _ } = self;
+    }
+}
+
 /// The clauses of the main program, of a method or of a routine, in order.
-#[derive(Drop)]
 pub struct Body {
     pub clauses: Items<Clause>,
 }
 
+impl Drop for Body {
+    fn drop(self) {
+        let Body { clauses: _ } = self;
+    }
+}
+
 /// A program: what a source means.
-#[derive(Drop)]
 pub struct Package {
     /// The clauses before the first directive.
     pub main: Body,
@@ -51,4 +60,16 @@ pub struct Package {
     pub routines: Items<(Text, u32)>,
     /// The lines of the source, without the bytes that end them.
     pub lines: Items<Text>,
+}
+
+impl Drop for Package {
+    fn drop(self) {
+        let Package {
+            main: _,
+            bodies: _,
+            classes: _,
+            routines: _,
+            lines: _,
+        } = self;
+    }
 }

@@ -5,10 +5,15 @@ use std::marker::Model;
 use std::sync::ledger::{Blank, Book, Ledger, Share};
 
 /// How often something was done. It takes no bytes, and only `tick` changes it. Contracts see the number.
-#[derive(Drop)]
 pub struct Steps<L: Ledger> {
     book: Book<L>,
     share: Share<L>,
+}
+
+impl<L: Ledger> Drop for Steps<L> {
+    fn drop(self) {
+        let Steps { book: _, share: _ } = self;
+    }
 }
 
 impl<L: Ledger> Model for Steps<L> {

@@ -24,9 +24,14 @@ impl<T: Drop> From<AllocFailed<T>> for OutOfMemory {
 /// A string of the language: at most 16,777,216 bytes of any kind, which several owners share.
 ///
 /// Contracts see a text as the list of its bytes.
-#[derive(Drop)]
 pub struct Text {
     shared: Arc<Vec<u8>>,
+}
+
+impl Drop for Text {
+    fn drop(self) {
+        let Text { shared: _ } = self;
+    }
 }
 
 impl Model for Text {

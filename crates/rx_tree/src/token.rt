@@ -93,11 +93,20 @@ pub enum TokenKind {
 }
 
 /// A token of a source.
-#[derive(Drop)]
 pub struct Token {
     pub kind: TokenKind,
     /// The line on which it begins, from 1.
     pub line: u32,
     /// Whether a blank stands between it and the token before.
     pub blank: bool,
+}
+
+impl Drop for Token {
+    fn drop(self) {
+        let Token {
+            kind: _,
+            line: _,
+            blank: _,
+        } = self;
+    }
 }

@@ -14,10 +14,15 @@ use std::{fs, io, str};
 
 /// The files that the program can reach. A name is a path in UTF-8, absolute or from the working
 /// directory on. It tells nothing of what the files hold. In contracts it is its count of faults.
-#[derive(Drop)]
 pub struct DirShelf<R> {
     rt: R,
     faults: u64,
+}
+
+impl<R: Drop> Drop for DirShelf<R> {
+    fn drop(self) {
+        let DirShelf { rt: _, faults: _ } = self;
+    }
 }
 
 impl<R> Model for DirShelf<R> {

@@ -11,10 +11,18 @@ use std::io::{Read, Write};
 use std::marker::Model;
 
 /// Standard input, or any other reader. It tells nothing of what is left.
-#[derive(Drop)]
 pub struct StdSource<R: Read> {
     reader: R,
     faults: u64,
+}
+
+impl<R: Read + Drop> Drop for StdSource<R> {
+    fn drop(self) {
+        let StdSource {
+            reader: _,
+            faults: _,
+        } = self;
+    }
 }
 
 impl<R: Read> Model for StdSource<R> {
@@ -69,10 +77,18 @@ fn put_counting<W: Write>(writer: &mut W, faults: &mut u64, bytes: &[u8]) -> Acc
 }
 
 /// Standard output, or any other writer. It tells nothing of what it has accepted.
-#[derive(Drop)]
 pub struct StdOut<W: Write> {
     writer: W,
     faults: u64,
+}
+
+impl<W: Write + Drop> Drop for StdOut<W> {
+    fn drop(self) {
+        let StdOut {
+            writer: _,
+            faults: _,
+        } = self;
+    }
 }
 
 impl<W: Write> Model for StdOut<W> {
@@ -109,10 +125,18 @@ impl<W: Write> Sink for StdOut<W> {
 }
 
 /// Standard error, or any other writer. It tells nothing of what it has accepted.
-#[derive(Drop)]
 pub struct StdErr<W: Write> {
     writer: W,
     faults: u64,
+}
+
+impl<W: Write + Drop> Drop for StdErr<W> {
+    fn drop(self) {
+        let StdErr {
+            writer: _,
+            faults: _,
+        } = self;
+    }
 }
 
 impl<W: Write> Model for StdErr<W> {

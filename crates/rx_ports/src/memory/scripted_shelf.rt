@@ -9,12 +9,22 @@ use std::alloc::{AllocError, Global};
 use std::marker::Model;
 
 /// Files in memory, which can be told to fail. In contracts they are the record `ShelfState`.
-#[derive(Drop)]
 pub struct MemShelf {
     files: Vec<(Vec<u8>, Vec<u8>)>,
     fail: Vec<u64>,
     calls: u64,
     faults: u64,
+}
+
+impl Drop for MemShelf {
+    fn drop(self) {
+        let MemShelf {
+            files: _,
+            fail: _,
+            calls: _,
+            faults: _,
+        } = self;
+    }
 }
 
 impl Model for MemShelf {

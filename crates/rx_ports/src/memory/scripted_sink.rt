@@ -9,13 +9,24 @@ use std::alloc::Global;
 use std::marker::Model;
 
 /// An output in memory that can be told to fail. In contracts it is the record `SinkState`.
-#[derive(Drop)]
 pub struct MemSink {
     bytes: Vec<u8>,
     fail: Vec<u64>,
     keep: u64,
     calls: u64,
     faults: u64,
+}
+
+impl Drop for MemSink {
+    fn drop(self) {
+        let MemSink {
+            bytes: _,
+            fail: _,
+            keep: _,
+            calls: _,
+            faults: _,
+        } = self;
+    }
 }
 
 impl Model for MemSink {

@@ -9,9 +9,14 @@ use std::alloc::Global;
 use std::marker::Model;
 
 /// An output in memory that never fails. In contracts it is the list of the bytes that it accepted.
-#[derive(Drop)]
 pub struct SureSink {
     bytes: Vec<u8>,
+}
+
+impl Drop for SureSink {
+    fn drop(self) {
+        let SureSink { bytes: _ } = self;
+    }
 }
 
 impl Model for SureSink {
@@ -60,10 +65,15 @@ impl Sink for SureSink {
 }
 
 /// An input in memory that never fails. In contracts it is the list of the bytes that are left.
-#[derive(Drop)]
 pub struct SureSource {
     bytes: Vec<u8>,
     at: usize,
+}
+
+impl Drop for SureSource {
+    fn drop(self) {
+        let SureSource { bytes: _, at: _ } = self;
+    }
 }
 
 impl Model for SureSource {

@@ -8,7 +8,7 @@ returns-clause-answer g c = record {
   told = c.conclude-told.result;
   conclusion = rw c.as_slice.ensures.value at (c.conclude-told.ensures.conclusion (g.I.Source.left c.args.input));
   gives_steps = refl;
-  gives_schedule = refl;
+  gives_schedule = c.into_schedule.ensures;
   tells = elim c.match-tell.branch [
     | in-All w ↦ tells-all _ _ c.conclude-told.result c.as_slice-2.result.now c.as_slice-3.result.now c.tell.result c.match-tell.status
         c.tell.ensures c.as_slice-2.ensures.value c.as_slice-3.ensures.value w.in-All.is w.status-is
