@@ -1,9 +1,10 @@
-//! Tells of the sources of its standard input, a line each, what comes of them.
+//! Tells of the cases of its standard input, a line each, what comes of them.
 //!
-//! Of `run` and a source it tells the status, the number of steps, the output and the report; of `scan` and a source how
-//! deep its brackets are and its tokens, or the line and number of its refusal. In sources and answers `\n`, `\r`, `\t`
-//! and `\\` are one byte, as in the language that this is written in, and `\xFF` is the byte of that number. Any other line
-//! is a heading, and told as it stands.
+//! Of `run` and a source it tells the status, the number of steps, the output and the report, and of `picks` and a source
+//! which activities took the steps. Of `words` and the words of a command line it tells the same as of `run`; the only file
+//! is `case`, which has `say 'Hello'`. Of `scan` and a source it tells how deep its brackets are and its tokens, or the
+//! line and number of its refusal. In sources and answers `\n`, `\r`, `\t` and `\\` are one byte, as in the language that
+//! this is written in, and `\xFF` is the byte of that number. Any other line is a heading, and told as it stands.
 #![tactic(auto)]
 
 mod escape;
@@ -11,7 +12,7 @@ mod running;
 mod tokens;
 
 use crate::escape::unescape;
-use crate::running::tell_run;
+use crate::running::{call, tell_call, tell_picks};
 use crate::tokens::tell_scan;
 use std::alloc::AllocError;
 use std::io;
@@ -22,7 +23,16 @@ use std::thread::Threads;
 fn tell(rt: &(impl Threads + Wait + Sync + AllocGlobal), line: &str) -> Result<String, AllocError> {
     let alloc = rt.alloc();
     if let Some(source) = line.strip_prefix("run ") {
-        return tell_run(rt, unescape(alloc, source.as_bytes())?);
+        let source = unescape(alloc, source.as_bytes())?;
+        return tell_call(alloc, &call(rt, " run case", source)?);
+    }
+    if let Some(source) = line.strip_prefix("picks ") {
+        let source = unescape(alloc, source.as_bytes())?;
+        return tell_picks(alloc, &call(rt, " run case", source)?);
+    }
+    if let Some(words) = line.strip_prefix("words") {
+        let source = b"say 'Hello'".to_vec(alloc)?;
+        return tell_call(alloc, &call(rt, words, source)?);
     }
     if let Some(source) = line.strip_prefix("scan ") {
         return tell_scan(alloc, unescape(alloc, source.as_bytes())?.as_slice());

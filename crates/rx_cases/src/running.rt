@@ -1,24 +1,52 @@
-// A run of a source.
+// Calls of the interpreter over a file of a shelf in memory.
 use crate::escape::escape;
 use rx_ports::{FreeGate, MemShelf, MemSink, SureSource};
 use rx_top::{Ended, rexx_call};
-use std::alloc::AllocError;
+use std::alloc::{AllocError, Global};
 use std::sync::Wait;
 use std::thread::Threads;
 
-type Call = Ended<MemShelf, SureSource, MemSink, MemSink>;
+/// What a call gives back.
+pub type Call = Ended<MemShelf, SureSource, MemSink, MemSink>;
 
-// Runs a source, as the file of a shelf in memory.
-fn run(
+/// What came of a call, as text: the status, the number of steps, the output and the report.
+pub fn tell_call(alloc: Global, call: &Call) -> Result<String, AllocError> {
+    let output = escape(alloc, call.out.bytes())?;
+    let report = escape(alloc, call.err.bytes())?;
+    format!(in alloc; "{} {} <{output}> <{report}>", call.status, call.steps)
+}
+
+/// The activities that took the steps of a call, as text.
+pub fn tell_picks(alloc: Global, call: &Call) -> Result<String, AllocError> {
+    let mut text = String::new(alloc);
+    for pick in &call.schedule {
+        if !text.is_empty() {
+            text.push(' ')?;
+        }
+        text.push_str(format!(in alloc; "{pick}")?.as_str())?;
+    }
+    Ok(text)
+}
+
+// The words of a line, with one blank before each.
+fn words_of(alloc: Global, line: &str) -> Result<Vec<Vec<u8>>, AllocError> {
+    let mut words = Vec::new(alloc);
+    for word in line.split(' ').skip(1) {
+        words.push(word.as_bytes().to_vec(alloc)?)?;
+    }
+    Ok(words)
+}
+
+/// Calls the interpreter with these words, each with a blank before it. The shelf has one file, `case`, with this source.
+pub fn call(
     rt: &(impl Threads + Wait + Sync + AllocGlobal),
+    words: &str,
     source: Vec<u8>,
 ) -> Result<Call, AllocError> {
     let alloc = rt.alloc();
     let mut files = Vec::new(alloc);
     files.push((b"case".to_vec(alloc)?, source))?;
-    let mut words = Vec::new(alloc);
-    words.push(b"run".to_vec(alloc)?)?;
-    words.push(b"case".to_vec(alloc)?)?;
+    let words = words_of(alloc, words)?;
     Ok(rexx_call(
         rt,
         alloc,
@@ -29,16 +57,4 @@ fn run(
         MemSink::new(alloc, Vec::new(alloc), 0),
         &FreeGate {},
     ))
-}
-
-/// What a run of a source comes to, as text: the status, the number of steps, the output and the report.
-pub fn tell_run(
-    rt: &(impl Threads + Wait + Sync + AllocGlobal),
-    source: Vec<u8>,
-) -> Result<String, AllocError> {
-    let alloc = rt.alloc();
-    let call = run(rt, source)?;
-    let output = escape(alloc, call.out.bytes())?;
-    let report = escape(alloc, call.err.bytes())?;
-    format!(in alloc; "{} {} <{output}> <{report}>", call.status, call.steps)
 }

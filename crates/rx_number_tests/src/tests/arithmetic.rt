@@ -1,12 +1,40 @@
 // Arithmetic within DIGITS. Each case is the operands, DIGITS and the answer.
 use rx_whole::{add, compare, divide, multiply, power, quotient, remainder, subtract};
 use std::cmp::Ordering;
+use std::process::Abort;
 
 type Case = (i64, i64, u8, Result<i64, u8>);
 
+#[derive(Clone, Copy)]
+enum Operator {
+    Add,
+    Subtract,
+    Multiply,
+    Divide,
+    Quotient,
+    Remainder,
+    Power,
+}
+
+// An operator gives its operands this answer.
+fn assert_gives(rt: &impl Abort, operator: Operator, case: &Case) {
+    let (a, b, digits, want) = *case;
+    assert!(rt; 1 <= digits && digits <= 18);
+    let given = match operator {
+        Operator::Add => add(a, b, digits),
+        Operator::Subtract => subtract(a, b, digits),
+        Operator::Multiply => multiply(a, b, digits),
+        Operator::Divide => divide(a, b, digits),
+        Operator::Quotient => quotient(a, b, digits),
+        Operator::Remainder => remainder(a, b, digits),
+        Operator::Power => power(a, b, digits),
+    };
+    assert_eq!(rt; given, want);
+}
+
 #[test]
-fn adds_and_subtracts(rt: HostRuntime) {
-    let sums: [Case; 12] = [
+fn adds(rt: HostRuntime) {
+    let cases: [Case; 12] = [
         (1, 1, 9, Ok(2)),
         (999999998, 1, 9, Ok(999999999)),
         (999999999, 1, 9, Err(42)),
@@ -20,11 +48,14 @@ fn adds_and_subtracts(rt: HostRuntime) {
         (999999999999999998, 1, 18, Ok(999999999999999999)),
         (999999999999999999, 1, 18, Err(42)),
     ];
-    for (a, b, digits, want) in sums {
-        assert!(rt; 1 <= digits && digits <= 18);
-        assert_eq!(rt; add(a, b, digits), want, "{a} + {b} at {digits}");
+    for case in &cases {
+        assert_gives(&rt, Operator::Add, case);
     }
-    let differences: [Case; 6] = [
+}
+
+#[test]
+fn subtracts(rt: HostRuntime) {
+    let cases: [Case; 6] = [
         (0, 5, 9, Ok(-5)),
         (-999999998, 1, 9, Ok(-999999999)),
         (-999999999, 1, 9, Err(42)),
@@ -32,9 +63,8 @@ fn adds_and_subtracts(rt: HostRuntime) {
         (999999999999999999, -1, 18, Err(42)),
         (-999999999999999999, -999999999999999999, 18, Ok(0)),
     ];
-    for (a, b, digits, want) in differences {
-        assert!(rt; 1 <= digits && digits <= 18);
-        assert_eq!(rt; subtract(a, b, digits), want, "{a} - {b} at {digits}");
+    for case in &cases {
+        assert_gives(&rt, Operator::Subtract, case);
     }
 }
 
@@ -52,15 +82,14 @@ fn multiplies(rt: HostRuntime) {
         (1000000000, 1000000000, 18, Err(42)),
         (-999999999999999999, 999999999999999999, 18, Err(42)),
     ];
-    for (a, b, digits, want) in cases {
-        assert!(rt; 1 <= digits && digits <= 18);
-        assert_eq!(rt; multiply(a, b, digits), want, "{a} * {b} at {digits}");
+    for case in &cases {
+        assert_gives(&rt, Operator::Multiply, case);
     }
 }
 
 #[test]
 fn divides(rt: HostRuntime) {
-    let quotients: [Case; 10] = [
+    let cases: [Case; 10] = [
         (8, 2, 9, Ok(4)),
         (-8, 2, 9, Ok(-4)),
         (0, -5, 9, Ok(0)),
@@ -72,10 +101,13 @@ fn divides(rt: HostRuntime) {
         (1000000000, 0, 9, Err(42)),
         (999999999999999999, -1, 18, Ok(-999999999999999999)),
     ];
-    for (a, b, digits, want) in quotients {
-        assert!(rt; 1 <= digits && digits <= 18);
-        assert_eq!(rt; divide(a, b, digits), want, "{a} / {b} at {digits}");
+    for case in &cases {
+        assert_gives(&rt, Operator::Divide, case);
     }
+}
+
+#[test]
+fn divides_to_whole_numbers_and_remainders(rt: HostRuntime) {
     // The operands, and what `%` and `//` give at 9 digits.
     let cases: [(i64, i64, Result<i64, u8>, Result<i64, u8>); 9] = [
         (7, 2, Ok(3), Ok(1)),
@@ -89,8 +121,8 @@ fn divides(rt: HostRuntime) {
         (10, 1000000000, Err(42), Err(42)),
     ];
     for (a, b, whole, rest) in cases {
-        assert_eq!(rt; quotient(a, b, 9), whole, "{a} % {b}");
-        assert_eq!(rt; remainder(a, b, 9), rest, "{a} // {b}");
+        assert_gives(&rt, Operator::Quotient, &(a, b, 9, whole));
+        assert_gives(&rt, Operator::Remainder, &(a, b, 9, rest));
     }
 }
 
@@ -122,10 +154,15 @@ fn raises_to_powers(rt: HostRuntime) {
         (2, 63, 18, Err(42)),
         (999999999999999999, 999999999999999999, 18, Err(42)),
     ];
-    for (a, b, digits, want) in cases {
-        assert!(rt; 1 <= digits && digits <= 18);
-        assert_eq!(rt; power(a, b, digits), want, "{a} ** {b} at {digits}");
+    for case in &cases {
+        assert_gives(&rt, Operator::Power, case);
     }
+}
+
+// Two numbers are so compared, at so many digits.
+fn assert_compares(rt: &impl Abort, a: i64, b: i64, digits: u8, want: Result<Ordering, u8>) {
+    assert!(rt; 1 <= digits && digits <= 18);
+    assert_eq!(rt; compare(a, b, digits), want);
 }
 
 #[test]
@@ -139,7 +176,6 @@ fn compares(rt: HostRuntime) {
         (1000000000, 999999999, 10, Ok(Ordering::Greater)),
     ];
     for (a, b, digits, want) in cases {
-        assert!(rt; 1 <= digits && digits <= 18);
-        assert_eq!(rt; compare(a, b, digits), want, "{a} and {b} at {digits}");
+        assert_compares(&rt, a, b, digits, want);
     }
 }

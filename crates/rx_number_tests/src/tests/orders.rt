@@ -1,6 +1,25 @@
 // The orders of two texts, and stripping.
 use rx_text::{compare_padded, compare_strict, strip, strip_front};
 use std::cmp::Ordering::{self, Equal, Greater, Less};
+use std::process::Abort;
+
+// Two texts are in this order by their bytes, and the other way round in the other.
+fn assert_strict(rt: &impl Abort, a: &[u8], b: &[u8], want: Ordering) {
+    assert!(rt; compare_strict(a, b) == want);
+    assert!(rt; compare_strict(b, a) == want.reverse());
+}
+
+// Two texts are in this order where they are padded, and the other way round in the other.
+fn assert_padded(rt: &impl Abort, a: &[u8], b: &[u8], want: Ordering) {
+    assert!(rt; compare_padded(a, b) == want);
+    assert!(rt; compare_padded(b, a) == want.reverse());
+}
+
+// A text without its leading blanks, and without its outer blanks.
+fn assert_stripped(rt: &impl Abort, text: &[u8], behind_front: &[u8], inner: &[u8]) {
+    assert!(rt; strip_front(text) == behind_front);
+    assert!(rt; strip(text) == inner);
+}
 
 #[test]
 fn orders_texts_by_bytes(rt: HostRuntime) {
@@ -17,8 +36,7 @@ fn orders_texts_by_bytes(rt: HostRuntime) {
         (b"abc", b"abc", Equal),
     ];
     for (a, b, want) in cases {
-        assert_eq!(rt; compare_strict(a, b), want, "{a:?} and {b:?}");
-        assert_eq!(rt; compare_strict(b, a), want.reverse(), "{b:?} and {a:?}");
+        assert_strict(&rt, a, b, want);
     }
 }
 
@@ -44,8 +62,7 @@ fn orders_texts_with_padding(rt: HostRuntime) {
         (b"\x00", b"", Less),
     ];
     for (a, b, want) in cases {
-        assert_eq!(rt; compare_padded(a, b), want, "{a:?} and {b:?}");
-        assert_eq!(rt; compare_padded(b, a), want.reverse(), "{b:?} and {a:?}");
+        assert_padded(&rt, a, b, want);
     }
 }
 
@@ -60,7 +77,6 @@ fn strips_blanks(rt: HostRuntime) {
         (b" \0 ", b"\0 ", b"\0"),
     ];
     for (text, behind_front, inner) in cases {
-        assert_eq!(rt; strip_front(text), behind_front, "{text:?}");
-        assert_eq!(rt; strip(text), inner, "{text:?}");
+        assert_stripped(&rt, text, behind_front, inner);
     }
 }

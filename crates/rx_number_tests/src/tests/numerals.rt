@@ -2,6 +2,18 @@
 use itoa::Buffer;
 use rx_whole::Numeral::{self, Long, NoNumber, Whole};
 use rx_whole::{number_text, read_number};
+use std::process::Abort;
+
+// A text is read so.
+fn assert_reads(rt: &impl Abort, text: &str, want: Numeral) {
+    assert_eq!(rt; read_number(text.as_bytes()), want);
+}
+
+// A number has this text.
+fn assert_writes(rt: &impl Abort, number: i64, want: &str) {
+    let mut buffer = Buffer::new();
+    assert_eq!(rt; number_text(number, &mut buffer), want.as_bytes());
+}
 
 #[test]
 fn reads_numbers(rt: HostRuntime) {
@@ -28,7 +40,7 @@ fn reads_numbers(rt: HostRuntime) {
         ("99999999999999999999999999999999999999999999999999", Long),
     ];
     for (text, want) in cases {
-        assert_eq!(rt; read_number(text.as_bytes()), want, "{text:?}");
+        assert_reads(&rt, text, want);
     }
 }
 
@@ -56,7 +68,7 @@ fn refuses_other_texts(rt: HostRuntime) {
         "9999999999999999999x",
     ];
     for text in cases {
-        assert_eq!(rt; read_number(text.as_bytes()), NoNumber, "{text:?}");
+        assert_reads(&rt, text, NoNumber);
     }
 }
 
@@ -72,12 +84,7 @@ fn writes_numbers(rt: HostRuntime) {
         (9223372036854775807, "9223372036854775807"),
         (-9223372036854775808, "-9223372036854775808"),
     ];
-    let mut buffer = Buffer::new();
     for (number, want) in cases {
-        assert_eq!(rt;
-            number_text(number, &mut buffer),
-            want.as_bytes(),
-            "{number}"
-        );
+        assert_writes(&rt, number, want);
     }
 }

@@ -17,14 +17,20 @@ fn filled(alloc: Global, front: &[u8], unit: &[u8], end: &[u8]) -> Result<Vec<u8
     Ok(source)
 }
 
-// How many tokens a source has, or the number of its refusal.
-fn count(alloc: Global, rt: &impl Abort, source: &[u8]) -> Result<usize, AllocError> {
+// A source has so many tokens, or is refused with this number.
+fn assert_scans(
+    alloc: Global,
+    rt: &impl Abort,
+    source: &[u8],
+    want: usize,
+) -> Result<(), AllocError> {
     assert!(rt; source.len() <= LONGEST_SOURCE);
     match scan(alloc, source) {
-        Ok(tokens) => Ok(tokens.len()),
-        Err(ScanRefused::Bad { number, .. }) => Ok(number as usize),
-        Err(ScanRefused::OutOfMemory) => Err(AllocError),
+        Ok(tokens) => assert!(rt; tokens.len() == want),
+        Err(ScanRefused::Bad { number, .. }) => assert!(rt; number as usize == want),
+        Err(ScanRefused::OutOfMemory) => return Err(AllocError),
     }
+    Ok(())
 }
 
 #[test]
@@ -40,9 +46,9 @@ fn long_sources_are_read(rt: HostRuntime) -> Result<(), Fail> {
         (b"", b",/**/", b"", 838_860),
         (b"'", b"a", b"", 6),
     ];
-    for (front, unit, end, expected) in cases {
+    for (front, unit, end, want) in cases {
         let source = filled(alloc, front, unit, end)?;
-        assert_eq!(rt; count(alloc, &rt, source.as_slice())?, expected);
+        assert_scans(alloc, &rt, source.as_slice(), want)?;
     }
     Ok(())
 }
