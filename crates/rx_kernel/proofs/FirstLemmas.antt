@@ -2,7 +2,7 @@
 use Rattle.std.proofs.Common.{◌≡◌, ℕ, List, [], Option, None, Some, sym, ◌∙◌, ap, subst, false}
 use Rattle.rx_tree.specs.declared.value.Value.{Value}
 use Rattle.rx_tree.specs.declared.class.MethodDef.{MethodDef}
-use Rattle.rx_tree.specs.declared.clause.Package.{Package}
+use Rattle.rx_tree.specs.declared.line.clause.Package.{Package}
 use Rattle.rx_tree.specs.declared.sent.Sent.{Sent}
 use Rattle.rx_tree.specs.declared.activity.Outcome.TheVariants.{Failed}
 use Rattle.rx_tree.specs.Object.{Sending}

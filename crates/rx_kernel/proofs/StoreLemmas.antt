@@ -1,13 +1,13 @@
 -- A clause that sets variables of its frame.
 use Rattle.std.proofs.Common.{◌≡◌, ℕ, List, ◌∷◌, Option, None, Some, map, drop, refl, sym, ◌∙◌, ap, subst}
 use Rattle.rx_tree.specs.declared.value.Value.{Value}
-use Rattle.rx_tree.specs.declared.clause.Package.{Package}
+use Rattle.rx_tree.specs.declared.line.clause.Package.{Package}
 use Rattle.rx_tree.specs.Object.{Pool}
 use Rattle.rx_tree.specs.Frame.{Whole}
 use Rattle.rx_tree.specs.World.{World, Activity}
 use Rattle.rx_machine.specs.Enabled.{with_activity}
 use Rattle.rx_machine.specs.Variables.{Store}
-use Rattle.rx_tree.specs.declared.clause.ClauseKind.{ClauseKind}
+use Rattle.rx_tree.specs.declared.line.clause.ClauseKind.{ClauseKind}
 use Rattle.rx_machine.specs.Step.{first_value, stored, finish}
 use Rattle.rx_kernel.specs.declared.frame.Frame.{Frame}
 use Rattle.rx_kernel.specs.declared.frame.Caller.{Caller}

@@ -1,7 +1,7 @@
 -- The activities that the kernel's parts stand for.
 use Rattle.std.specs.Prelude.{ℕ, Bool, if◌then◌else◌, ◌&&◌, List, [], ◌∷◌, map}
 use Rattle.std.specs.Option.{option_map}
-use Rattle.rx_tree.specs.declared.clause.Package.{Package}
+use Rattle.rx_tree.specs.declared.line.clause.Package.{Package}
 use Rattle.rx_tree.specs.Frame.{Owner}
 use Rattle.rx_tree.specs.World as world
 use Rattle.rx_tree.specs.World.{World}

@@ -1,6 +1,6 @@
 -- What the first step of an activity that was begun makes of the world.
 use Rattle.std.specs.Prelude.{◌≡◌, ℕ, List, []}
-use Rattle.rx_tree.specs.declared.clause.Package.{Package}
+use Rattle.rx_tree.specs.declared.line.clause.Package.{Package}
 use Rattle.rx_tree.specs.World.{Activity}
 use Rattle.rx_machine.specs.Sending.{first_sent}
 use Rattle.rx_kernel.specs.declared.parts.Parts.{Parts}

@@ -2,13 +2,13 @@
 use Rattle.std.specs.Prelude.{ℕ, ◌+◌, true, false, List, [], ◌∷◌, Option, None, Some, map, drop, length, slice_get}
 use Rattle.std.specs.Option.{option_map}
 use Rattle.rx_tree.specs.declared.value.Value.{Value}
-use Rattle.rx_tree.specs.declared.expr.Operand.{Operand}
-use Rattle.rx_tree.specs.declared.expr.Operand.TheVariants as operand
-use Rattle.rx_tree.specs.declared.expr.SendPart.{SendPart}
-use Rattle.rx_tree.specs.declared.expr.Term.{Term}
-use Rattle.rx_tree.specs.declared.expr.Expr.{Expr}
-use Rattle.rx_tree.specs.declared.clause.Clause.{Clause}
-use Rattle.rx_tree.specs.declared.clause.Package.{Package}
+use Rattle.rx_tree.specs.declared.line.expr.Operand.{Operand}
+use Rattle.rx_tree.specs.declared.line.expr.Operand.TheVariants as operand
+use Rattle.rx_tree.specs.declared.line.expr.SendPart.{SendPart}
+use Rattle.rx_tree.specs.declared.line.expr.Term.{Term}
+use Rattle.rx_tree.specs.declared.line.expr.Expr.{Expr}
+use Rattle.rx_tree.specs.declared.line.clause.Clause.{Clause}
+use Rattle.rx_tree.specs.declared.line.clause.Package.{Package}
 use Rattle.rx_tree.specs.declared.activity.FrameKind.{FrameKind}
 use Rattle.rx_tree.specs.declared.activity.FrameKind.TheVariants.{Main, Method}
 use Rattle.rx_tree.specs.declared.activity.TraceSetting.TheVariants.{Off}

@@ -1,6 +1,6 @@
 -- The world that the kernel's parts stand for, and what a kind of step makes of it.
 use Rattle.std.specs.Prelude.{◌≡◌, ℕ, ◌+◌, false, List, [], ◌∷◌, ◌++◌, Option, None, Some, length}
-use Rattle.rx_tree.specs.declared.clause.Package.{Package}
+use Rattle.rx_tree.specs.declared.line.clause.Package.{Package}
 use Rattle.rx_tree.specs.World.{World, Activity, Live, First, Ending, NoValue, Failed}
 use Rattle.rx_machine.specs.Enabled.{with_activity}
 use Rattle.rx_kernel.specs.declared.parts.Parts.{Parts}

@@ -1,8 +1,8 @@
 // What the expression of a clause comes to.
 ghost use Rattle.std.specs.Prelude.{◌≡◌, ◌∷◌, [], map, IfOk};
 ghost use Rattle.std.specs.Option.{option_map};
-ghost use Rattle.rx_tree.specs.declared.expr.Expr.{Expr};
-ghost use Rattle.rx_tree.specs.declared.expr.Operand.TheVariants.{Const};
+ghost use Rattle.rx_tree.specs.declared.line.expr.Expr.{Expr};
+ghost use Rattle.rx_tree.specs.declared.line.expr.Operand.TheVariants.{Const};
 ghost use Rattle.rx_machine.specs.Evaluation.{Found};
 ghost use Rattle.rx_machine.specs.Step.{Values, given_tree, trees_of, as_wanted, found_before, evaluate_all};
 ghost use Rattle.rx_kernel.specs.Frames.{rest_of};
@@ -14,7 +14,8 @@ use crate::computed::{Computed, Settled};
 use crate::frame::{Frame, Place};
 use crate::joining::{evaluate, resume};
 use rx_store::{Pools, Program};
-use rx_tree::{ClauseKind, Expr, OutOfMemory, Term, Value};
+use rx_tree::line::{ClauseKind, Expr, Term};
+use rx_tree::{OutOfMemory, Value};
 use std::alloc::Global;
 
 // The parts of an expression.

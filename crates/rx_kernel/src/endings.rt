@@ -1,6 +1,6 @@
 // How frames end: with a value, or by an error.
 ghost use Rattle.std.specs.Prelude.{◌≡◌, ◌∷◌, ℕ, List, [], IfOk, OnOk};
-ghost use Rattle.rx_tree.specs.declared.clause.Package.{Package};
+ghost use Rattle.rx_tree.specs.declared.line.clause.Package.{Package};
 ghost use Rattle.rx_tree.specs.Frame as machine;
 ghost use Rattle.rx_tree.specs.Frame.{Todo};
 ghost use Rattle.rx_tree.specs.World.{Activity};

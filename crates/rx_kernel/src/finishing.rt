@@ -1,11 +1,11 @@
 // What a clause does at its end.
 ghost use Rattle.std.specs.Prelude.{◌≡◌, ◌++◌, ℕ, List, Option, IfOk, OnOk};
 ghost use Rattle.rx_tree.specs.declared.value.Value.{Value};
-ghost use Rattle.rx_tree.specs.declared.expr.Expr.{Expr};
-ghost use Rattle.rx_tree.specs.declared.expr.Term.{Term};
+ghost use Rattle.rx_tree.specs.declared.line.expr.Expr.{Expr};
+ghost use Rattle.rx_tree.specs.declared.line.expr.Term.{Term};
 ghost use Rattle.rx_kernel.specs.declared.frame.Caller.{Caller};
 ghost use Rattle.std.specs.Option.{option_map};
-ghost use Rattle.rx_tree.specs.declared.clause.Package.{Package};
+ghost use Rattle.rx_tree.specs.declared.line.clause.Package.{Package};
 ghost use Rattle.rx_machine.specs.Pools.{place_of};
 ghost use Rattle.rx_machine.specs.Step.{line_said, finish};
 ghost use Rattle.rx_kernel.specs.Frames.{owner, frames_of};
@@ -18,7 +18,8 @@ use crate::callers::Callers;
 use crate::frame::{Frame, Next, Own, Progress, Top};
 use crate::parts::Parts;
 use rx_store::Pools;
-use rx_tree::{ClauseKind, Name, OutOfMemory, Place, Value};
+use rx_tree::line::{ClauseKind, Name};
+use rx_tree::{OutOfMemory, Place, Value};
 use sqlite_items::Items;
 use std::alloc::{AllocError, Global};
 

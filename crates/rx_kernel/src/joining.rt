@@ -1,9 +1,9 @@
 // The value of an expression: terms joined from left to right.
 ghost use Rattle.std.specs.Prelude.{◌≡◌, ◌≢◌, ◌+◌, ◌∷◌, ℕ, List, [], drop, slice_get, Some, IfOk};
 ghost use Rattle.rx_machine.specs.Evaluation.{TermFound, Found, hole, asks_string, join, evaluate_term, join_all, join_first, evaluate};
-ghost use Rattle.rx_tree.specs.declared.expr.Expr.{Expr};
-ghost use Rattle.rx_tree.specs.declared.expr.Term.{Term};
-ghost use Rattle.rx_tree.specs.declared.expr.Operand.TheVariants.{Const};
+ghost use Rattle.rx_tree.specs.declared.line.expr.Expr.{Expr};
+ghost use Rattle.rx_tree.specs.declared.line.expr.Term.{Term};
+ghost use Rattle.rx_tree.specs.declared.line.expr.Operand.TheVariants.{Const};
 ghost use Rattle.rx_kernel.specs.Frames.{rest_of, rest_term, sends_of};
 ghost use Rattle.rx_kernel.specs.Computing.{context, IsReached, IsComputed, expr_of};
 ghost use Rattle.rx_kernel.specs.Joining.{IsJoined, string_if};
@@ -13,7 +13,8 @@ use crate::computed::{Computed, Reached};
 use crate::frame::{Frame, Left, Place};
 use crate::operands::{operand_value, reach, string_message};
 use rx_store::{Pools, Program};
-use rx_tree::{OutOfMemory, SendPart, Term, Text, Value};
+use rx_tree::line::{SendPart, Term};
+use rx_tree::{OutOfMemory, Text, Value};
 use sqlite_items::at as item_at;
 use std::alloc::Global;
 

@@ -1,7 +1,7 @@
 // NEW: objects are made.
 ghost use Rattle.std.specs.Prelude.{◌≡◌, ◌<◌, None, Some, IfOk};
 ghost use Rattle.rx_tree.specs.declared.class.MethodDef.{MethodDef};
-ghost use Rattle.rx_tree.specs.declared.clause.Package.{Package};
+ghost use Rattle.rx_tree.specs.declared.line.clause.Package.{Package};
 ghost use Rattle.rx_machine.specs.Sending.{made, made_by};
 ghost use Rattle.rx_machine.specs.Sending as machine;
 ghost use Rattle.rx_kernel.specs.Frames.{frames_of, caller_frame};

@@ -9,7 +9,8 @@ ghost use Rattle.rx_kernel.specs.Computing.{context, IsReached};
 use crate::computed::Reached;
 use crate::frame::Frame;
 use rx_store::{Pools, Program};
-use rx_tree::{Name, Operand, OutOfMemory, Place, SendPart, Sent, Text, Value};
+use rx_tree::line::{Name, Operand, SendPart};
+use rx_tree::{OutOfMemory, Place, Sent, Text, Value};
 use sqlite_items::Items;
 use std::alloc::Global;
 

@@ -1,7 +1,7 @@
 // What becomes of a message.
 ghost use Rattle.std.specs.Prelude.{◌≡◌, ◌<◌, ◌∷◌, ℕ, List, None, Some, false, IfOk};
 ghost use Rattle.rx_tree.specs.declared.class.MethodDef.{MethodDef};
-ghost use Rattle.rx_tree.specs.declared.clause.Package.{Package};
+ghost use Rattle.rx_tree.specs.declared.line.clause.Package.{Package};
 ghost use Rattle.rx_machine.specs.Classes.{string_of_object};
 ghost use Rattle.rx_machine.specs.Sending.{first_rows, pushed, called, given_without, string_given, made, performed, send, number_of};
 ghost use Rattle.rx_machine.specs.Sending as machine;

@@ -1,6 +1,6 @@
 // START: activities are begun, and send their first messages.
 ghost use Rattle.std.specs.Prelude.{◌≡◌, ◌<◌, [], None, Some, false, IfOk};
-ghost use Rattle.rx_tree.specs.declared.clause.Package.{Package};
+ghost use Rattle.rx_tree.specs.declared.line.clause.Package.{Package};
 ghost use Rattle.rx_machine.specs.Sending.{made, started_with, started, performed, first_refused, first_without, first_performed, most_activities, number_of, name_in};
 ghost use Rattle.rx_machine.specs.Sending as machine;
 ghost use Rattle.rx_tree.specs.Object.{Sending};

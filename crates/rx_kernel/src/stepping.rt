@@ -1,7 +1,7 @@
 // A step of an activity that has frames.
 ghost use Rattle.std.specs.Prelude.{◌≡◌, ◌+◌, ◌∷◌, map, drop, slice_get, Some, None, IfOk};
-ghost use Rattle.rx_tree.specs.declared.expr.Operand.TheVariants.{Hole};
-ghost use Rattle.rx_tree.specs.declared.clause.Package.{Package};
+ghost use Rattle.rx_tree.specs.declared.line.expr.Operand.TheVariants.{Hole};
+ghost use Rattle.rx_tree.specs.declared.line.clause.Package.{Package};
 ghost use Rattle.rx_tree.specs.Frame.{Whole};
 ghost use Rattle.rx_machine.specs.Step.{AllFound, has_no_sends, trees_of, settle, needs_no_value, without_value, stretch, step_todo, step_frames};
 ghost use Rattle.rx_kernel.specs.Frames.{rest_of, partly_item, frame_with, clauses_of, frames_of, top_frame};
@@ -14,7 +14,8 @@ use crate::computing::{compute, compute_rest};
 use crate::frame::{Caller, Frame, Next, Place, Progress, Top};
 use crate::parts::Parts;
 use rx_store::Program;
-use rx_tree::{Clause, ClauseKind, OutOfMemory, SendPart, Value};
+use rx_tree::line::{Clause, ClauseKind, SendPart};
+use rx_tree::{OutOfMemory, Value};
 use sqlite_items::at as item_at;
 use std::alloc::Global;
 

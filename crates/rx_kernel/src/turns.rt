@@ -1,6 +1,6 @@
 // A step of the activity of a number.
 ghost use Rattle.std.specs.Prelude.{◌≡◌, ◌<◌, ◌≤◌, ◌∷◌, length, slice_get, slice_set, Some, OnOk};
-ghost use Rattle.rx_tree.specs.declared.clause.Package.{Package};
+ghost use Rattle.rx_tree.specs.declared.line.clause.Package.{Package};
 ghost use Rattle.rx_machine.specs.Sending.{first_sent};
 ghost use Rattle.rx_machine.specs.Step.{step, step_frames, Done};
 ghost use Rattle.rx_kernel.specs.Frames.{after, top_frame, frames_of};

@@ -7,14 +7,14 @@ use Rattle.std.proofs.lemmas.Slice.Eq.{bytes_eq-Decides}
 use Rattle.rx_tree.specs.declared.token.Oper.TheVariants.{Equal}
 use Rattle.rx_tree.specs.declared.token.TokenKind.{TokenKind}
 use Rattle.rx_tree.specs.declared.token.TokenKind.TheVariants as token
-use Rattle.rx_tree.specs.declared.name.Name.{Name}
-use Rattle.rx_tree.specs.declared.name.Name.TheVariants as name
-use Rattle.rx_tree.specs.declared.expr.Operand.{Operand}
-use Rattle.rx_tree.specs.declared.expr.SendPart.{SendPart}
-use Rattle.rx_tree.specs.declared.expr.Term.{Term}
-use Rattle.rx_tree.specs.declared.expr.Expr.{Expr}
-use Rattle.rx_tree.specs.declared.clause.ClauseKind.{ClauseKind}
-use Rattle.rx_tree.specs.declared.clause.ClauseKind.TheVariants.{Say, Assign, Nop, Return, Expose, UseArg, Message}
+use Rattle.rx_tree.specs.declared.line.name.Name.{Name}
+use Rattle.rx_tree.specs.declared.line.name.Name.TheVariants as name
+use Rattle.rx_tree.specs.declared.line.expr.Operand.{Operand}
+use Rattle.rx_tree.specs.declared.line.expr.SendPart.{SendPart}
+use Rattle.rx_tree.specs.declared.line.expr.Term.{Term}
+use Rattle.rx_tree.specs.declared.line.expr.Expr.{Expr}
+use Rattle.rx_tree.specs.declared.line.clause.ClauseKind.{ClauseKind}
+use Rattle.rx_tree.specs.declared.line.clause.ClauseKind.TheVariants.{Say, Assign, Nop, Return, Expose, UseArg, Message}
 use Rattle.rx_lines.specs.Names.{is_in, keywords}
 use Rattle.rx_lines.specs.Clauses.{FitsOperand, FitsSends, FitsTerm, FitsJoined, FitsExpr, FitsWord, named, listed, FitsExpose, FitsUse, begins_keyword, FitsMessage, Fits}
 use Rattle.rx_lines.specs.Conditions.{has_none}

@@ -3,8 +3,8 @@ use Rattle.std.proofs.Common.{◌≡◌, ◌<◌, ◌≤◌, get_or, add-one, in
 use Rattle.std.proofs.lemmas.List.{append-nil}
 use Rattle.std.proofs.Math.Seq.{drop-cons}
 use Rattle.std.proofs.Math.ListN.{drop_of_length-le}
-use Rattle.rx_tree.specs.declared.clause.Clause.{Clause}
-use Rattle.rx_tree.specs.declared.clause.Body.{Body}
+use Rattle.rx_tree.specs.declared.line.clause.Clause.{Clause}
+use Rattle.rx_tree.specs.declared.line.clause.Body.{Body}
 use Rattle.rx_tree.specs.declared.class.ClassDef.{ClassDef}
 use Rattle.rx_lines.specs.declared.entry.Entry.{Entry}
 use Rattle.rx_lines.specs.declared.entry.Entry.TheVariants as entry

@@ -3,8 +3,8 @@ use Rattle.std.proofs.Common.{◌≡◌, inl, inr, ◌+◌, ℕ, Bool, true, fal
 use Rattle.std.specs.Prelude.{codes}
 use Rattle.rx_tree.specs.declared.token.TokenKind.{TokenKind}
 use Rattle.rx_tree.specs.declared.token.TokenKind.TheVariants as token
-use Rattle.rx_tree.specs.declared.clause.Clause.{Clause}
-use Rattle.rx_tree.specs.declared.clause.ClauseKind.{ClauseKind}
+use Rattle.rx_tree.specs.declared.line.clause.Clause.{Clause}
+use Rattle.rx_tree.specs.declared.line.clause.ClauseKind.{ClauseKind}
 use Rattle.rx_lines.specs.declared.entry.Entry.{Entry}
 use Rattle.rx_lines.specs.declared.entry.Entry.TheVariants as entry
 use Rattle.rx_lines.specs.Tokens.{Spells}

@@ -4,12 +4,12 @@ use Rattle.rx_tree.specs.declared.token.Oper.TheVariants.{Concat, Send}
 use Rattle.rx_tree.specs.declared.token.TokenKind.{TokenKind}
 use Rattle.rx_tree.specs.declared.token.TokenKind.TheVariants as token
 use Rattle.rx_tree.specs.declared.value.Value.TheVariants.{Str}
-use Rattle.rx_tree.specs.declared.name.Name.TheVariants as name
-use Rattle.rx_tree.specs.declared.expr.Operand.{Operand}
-use Rattle.rx_tree.specs.declared.expr.Operand.TheVariants as made
-use Rattle.rx_tree.specs.declared.expr.SendPart.{SendPart}
-use Rattle.rx_tree.specs.declared.expr.Term.{Term}
-use Rattle.rx_tree.specs.declared.expr.Expr.{Expr}
+use Rattle.rx_tree.specs.declared.line.name.Name.TheVariants as name
+use Rattle.rx_tree.specs.declared.line.expr.Operand.{Operand}
+use Rattle.rx_tree.specs.declared.line.expr.Operand.TheVariants as made
+use Rattle.rx_tree.specs.declared.line.expr.SendPart.{SendPart}
+use Rattle.rx_tree.specs.declared.line.expr.Term.{Term}
+use Rattle.rx_tree.specs.declared.line.expr.Expr.{Expr}
 use Rattle.rx_lines.specs.Clauses.{FitsOperand, FitsMoreArgs, FitsArgs, FitsSends, FitsTerm, FitsJoined, FitsExpr}
 use Rattle.rx_lines.specs.Reader.{is_left}
 use Rattle.rx_lines.specs.ClauseReader.{is_send, is_concat, is_right, is_comma, name_of, operand_of, no_sends, with_operand, no_args, with_arg, with_send, by_sign, chain_at, terms_at, sent_at, args_at, first_arg_at, more_args_at, next_arg_at, expr_with, expr_of}

@@ -1,8 +1,8 @@
 -- The draft of some entries is their package.
 use Rattle.std.proofs.Common.{◌≡◌, ◌+◌, ℕ, Bool, true, cond, List, [], ◌∷◌, ◌++◌, Option, None, Some, length, length-append, refl, sym, ◌∙◌, ap, append_assoc}
 use Rattle.std.proofs.lemmas.List.{append-nil}
-use Rattle.rx_tree.specs.declared.clause.Clause.{Clause}
-use Rattle.rx_tree.specs.declared.clause.Body.{Body}
+use Rattle.rx_tree.specs.declared.line.clause.Clause.{Clause}
+use Rattle.rx_tree.specs.declared.line.clause.Body.{Body}
 use Rattle.rx_tree.specs.declared.class.MethodDef.{MethodDef}
 use Rattle.rx_tree.specs.declared.class.ClassDef.{ClassDef}
 use Rattle.rx_lines.specs.declared.entry.Entry.{Entry}

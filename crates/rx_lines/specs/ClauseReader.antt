@@ -6,15 +6,15 @@ use Rattle.rx_tree.specs.declared.token.Oper.TheVariants.{Concat, Equal, Send}
 use Rattle.rx_tree.specs.declared.token.TokenKind.{TokenKind}
 use Rattle.rx_tree.specs.declared.token.TokenKind.TheVariants as token
 use Rattle.rx_tree.specs.declared.value.Value.TheVariants.{Str}
-use Rattle.rx_tree.specs.declared.name.Name.{Name}
-use Rattle.rx_tree.specs.declared.name.Name.TheVariants as name
-use Rattle.rx_tree.specs.declared.expr.Operand.{Operand}
-use Rattle.rx_tree.specs.declared.expr.Operand.TheVariants as operand
-use Rattle.rx_tree.specs.declared.expr.SendPart.{SendPart}
-use Rattle.rx_tree.specs.declared.expr.Term.{Term}
-use Rattle.rx_tree.specs.declared.expr.Expr.{Expr}
-use Rattle.rx_tree.specs.declared.clause.ClauseKind.{ClauseKind}
-use Rattle.rx_tree.specs.declared.clause.ClauseKind.TheVariants.{Say, Assign, Nop, Return, Expose, UseArg, Message}
+use Rattle.rx_tree.specs.declared.line.name.Name.{Name}
+use Rattle.rx_tree.specs.declared.line.name.Name.TheVariants as name
+use Rattle.rx_tree.specs.declared.line.expr.Operand.{Operand}
+use Rattle.rx_tree.specs.declared.line.expr.Operand.TheVariants as operand
+use Rattle.rx_tree.specs.declared.line.expr.SendPart.{SendPart}
+use Rattle.rx_tree.specs.declared.line.expr.Term.{Term}
+use Rattle.rx_tree.specs.declared.line.expr.Expr.{Expr}
+use Rattle.rx_tree.specs.declared.line.clause.ClauseKind.{ClauseKind}
+use Rattle.rx_tree.specs.declared.line.clause.ClauseKind.TheVariants.{Say, Assign, Nop, Return, Expose, UseArg, Message}
 use Rattle.rx_lines.specs.declared.entry.Entry.{Entry}
 use Rattle.rx_lines.specs.declared.entry.Entry.TheVariants as entry
 use Rattle.rx_lines.specs.Names.{is_in, keywords}

@@ -4,18 +4,18 @@ use Rattle.std.specs.List.{list_all}
 use Rattle.std.specs.Str.{bytes_eq, str_to_ascii_uppercase}
 use Rattle.rx_tree.specs.declared.value.Value.{Value}
 use Rattle.rx_tree.specs.declared.value.Value.TheVariants.{Str}
-use Rattle.rx_tree.specs.declared.expr.Operand.{Operand}
-use Rattle.rx_tree.specs.declared.expr.Operand.TheVariants.{Const, Environment}
-use Rattle.rx_tree.specs.declared.expr.SendPart.{SendPart}
-use Rattle.rx_tree.specs.declared.expr.Term.{Term}
-use Rattle.rx_tree.specs.declared.expr.Expr.{Expr}
-use Rattle.rx_tree.specs.declared.clause.Clause.{Clause}
-use Rattle.rx_tree.specs.declared.clause.ClauseKind.{ClauseKind}
-use Rattle.rx_tree.specs.declared.clause.ClauseKind.TheVariants.{Say, Assign, Return, Expose, Message}
-use Rattle.rx_tree.specs.declared.clause.Body.{Body}
+use Rattle.rx_tree.specs.declared.line.expr.Operand.{Operand}
+use Rattle.rx_tree.specs.declared.line.expr.Operand.TheVariants.{Const, Environment}
+use Rattle.rx_tree.specs.declared.line.expr.SendPart.{SendPart}
+use Rattle.rx_tree.specs.declared.line.expr.Term.{Term}
+use Rattle.rx_tree.specs.declared.line.expr.Expr.{Expr}
+use Rattle.rx_tree.specs.declared.line.clause.Clause.{Clause}
+use Rattle.rx_tree.specs.declared.line.clause.ClauseKind.{ClauseKind}
+use Rattle.rx_tree.specs.declared.line.clause.ClauseKind.TheVariants.{Say, Assign, Return, Expose, Message}
+use Rattle.rx_tree.specs.declared.line.clause.Body.{Body}
 use Rattle.rx_tree.specs.declared.class.MethodDef.{MethodDef}
 use Rattle.rx_tree.specs.declared.class.ClassDef.{ClassDef}
-use Rattle.rx_tree.specs.declared.clause.Package.{Package}
+use Rattle.rx_tree.specs.declared.line.clause.Package.{Package}
 use Rattle.rx_tree.specs.Valid.{most_classes}
 use Rattle.rx_lines.specs.Names.{is_in, native_classes, native_methods}
 

@@ -1,11 +1,11 @@
 -- How the functions inside the reader build a package, entry by entry. The crate's proofs show that it is what `package_of`
 -- gives; nothing that is promised to callers cites this file.
 use Rattle.std.specs.Prelude.{◌≡◌, ℕ, Bool, List, [], ◌∷◌, ◌++◌, Option, None, Some, length}
-use Rattle.rx_tree.specs.declared.clause.Clause.{Clause}
-use Rattle.rx_tree.specs.declared.clause.Body.{Body}
+use Rattle.rx_tree.specs.declared.line.clause.Clause.{Clause}
+use Rattle.rx_tree.specs.declared.line.clause.Body.{Body}
 use Rattle.rx_tree.specs.declared.class.MethodDef.{MethodDef}
 use Rattle.rx_tree.specs.declared.class.ClassDef.{ClassDef}
-use Rattle.rx_tree.specs.declared.clause.Package.{Package}
+use Rattle.rx_tree.specs.declared.line.clause.Package.{Package}
 use Rattle.rx_lines.specs.declared.entry.Entry.{Entry}
 use Rattle.rx_lines.specs.declared.entry.Entry.TheVariants as entry
 use Rattle.rx_lines.specs.declared.draft.Draft.{Draft}

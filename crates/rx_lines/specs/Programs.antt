@@ -1,7 +1,7 @@
 -- Which program a source is, in the line form.
 use Rattle.std.specs.Prelude.{◌≡◌, ◌≤◌, ℕ, List, length, IsTrue}
 use Rattle.std.specs.Str.Lines.{lines}
-use Rattle.rx_tree.specs.declared.clause.Package.{Package}
+use Rattle.rx_tree.specs.declared.line.clause.Package.{Package}
 use Rattle.rx_lines.specs.declared.entry.Entry.{Entry}
 use Rattle.rx_lines.specs.Entries.{AreEntries}
 use Rattle.rx_lines.specs.Packages.{is_ordered, package_of}

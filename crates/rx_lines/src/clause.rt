@@ -7,7 +7,8 @@ ghost use Rattle.rx_lines.specs.ClauseReader.{is_message, given_of, nop_of, name
 use crate::expr::read_expr;
 use crate::native::is_keyword;
 use crate::words::{is_comma, is_equal, is_word, read_name};
-use rx_tree::{ClauseKind, Expr, Name, OutOfMemory, SendPart, Term, Text, TokenKind};
+use rx_tree::line::{ClauseKind, Expr, Name, SendPart, Term};
+use rx_tree::{OutOfMemory, Text, TokenKind};
 use sqlite_items::Items;
 use std::alloc::Global;
 

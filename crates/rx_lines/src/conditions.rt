@@ -8,7 +8,8 @@ use crate::known::is_known;
 use crate::names::Names;
 use crate::native::{is_native_class, is_native_method};
 use crate::places::{are_method_bodies, stand_anywhere};
-use rx_tree::{ClassDef, MethodDef, OutOfMemory, Package};
+use rx_tree::line::Package;
+use rx_tree::{ClassDef, MethodDef, OutOfMemory};
 use std::alloc::Global;
 
 /// The most classes of a program.

@@ -5,7 +5,8 @@ ghost use Rattle.rx_lines.specs.ClauseReader.{class_with, method_with, name_of, 
 use crate::clause::read_clause;
 use crate::entry::Entry;
 use crate::words::{is_colons, is_word, read_name};
-use rx_tree::{Clause, OutOfMemory, TokenKind};
+use rx_tree::line::Clause;
+use rx_tree::{OutOfMemory, TokenKind};
 use std::alloc::Global;
 
 // A class directive, by its name and what stands behind it.

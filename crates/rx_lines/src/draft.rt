@@ -4,7 +4,8 @@ ghost use Rattle.rx_lines.specs.Packages.{new_class};
 ghost use Rattle.rx_lines.specs.DraftReader.{no_draft, body_closed, class_closed, clause_in, class_added, method_in, added};
 
 use crate::entry::Entry;
-use rx_tree::{Body, ClassDef, Clause, MethodDef, OutOfMemory, Text};
+use rx_tree::line::{Body, Clause};
+use rx_tree::{ClassDef, MethodDef, OutOfMemory, Text};
 use sqlite_items::Items;
 use std::alloc::Global;
 

@@ -4,7 +4,8 @@ ghost use Rattle.rx_lines.specs.ClauseReader.{more_args_at, first_arg_at, args_a
 
 use crate::sign::is_left;
 use crate::words::{is_comma, is_concat, is_right, is_send, read_name, read_operand};
-use rx_tree::{Expr, Operand, OutOfMemory, SendPart, Term, TokenKind};
+use rx_tree::line::{Expr, Operand, SendPart, Term};
+use rx_tree::{OutOfMemory, TokenKind};
 use sqlite_items::Items;
 use std::alloc::Global;
 

@@ -5,9 +5,8 @@ ghost use Rattle.rx_lines.specs.Names.{is_in};
 ghost use Rattle.rx_lines.specs.Conditions.{has_none, names_class, is_known_operand, is_method_string, is_literal_name, starts_known, is_known_message, is_known_send, is_known_term, is_known_expr, is_known_given, is_known_kind, is_known_clause, is_known_body, is_known};
 
 use crate::names::Names;
-use rx_tree::{
-    Body, Clause, ClauseKind, Expr, Operand, OutOfMemory, Package, SendPart, Term, Value,
-};
+use rx_tree::line::{Body, Clause, ClauseKind, Expr, Operand, Package, SendPart, Term};
+use rx_tree::{OutOfMemory, Value};
 use std::alloc::Global;
 
 // An environment symbol is a period and the name of a class of the source.

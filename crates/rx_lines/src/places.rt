@@ -3,7 +3,7 @@ ghost use Rattle.std.specs.Prelude.{◌≡◌};
 ghost use Rattle.std.specs.List.{list_all};
 ghost use Rattle.rx_lines.specs.Conditions.{is_common, is_later, stands_anywhere, stands_later, is_method_body};
 
-use rx_tree::{Body, Clause, ClauseKind};
+use rx_tree::line::{Body, Clause, ClauseKind};
 
 // A clause that may stand anywhere.
 fn is_common(kind: &ClauseKind) -> bool

@@ -1,6 +1,6 @@
 // The program of a source.
 ghost use Rattle.std.specs.Prelude.{◌≡◌, IfOk, IfSome, MatchOption};
-ghost use Rattle.rx_tree.specs.declared.clause.Package.{Package};
+ghost use Rattle.rx_tree.specs.declared.line.clause.Package.{Package};
 ghost use Rattle.rx_tree.specs.Valid.{IsValid};
 ghost use Rattle.rx_lines.specs.Programs.{AtMostOneProgram, IsProgram};
 ghost use Rattle.rx_lines.specs.DraftReader.{made_of};
@@ -9,7 +9,8 @@ use crate::conditions::is_sound;
 use crate::draft::{Draft, close};
 use crate::lines::read_lines;
 use crate::source::split_lines;
-use rx_tree::{Body, OutOfMemory, Package, Text};
+use rx_tree::line::{Body, Package};
+use rx_tree::{OutOfMemory, Text};
 use sqlite_items::Items;
 use std::alloc::Global;
 

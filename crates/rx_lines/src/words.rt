@@ -2,7 +2,8 @@
 ghost use Rattle.std.specs.Prelude.{◌≡◌, IfOk};
 ghost use Rattle.rx_lines.specs.ClauseReader.{is_send, is_concat, is_equal, is_right, is_comma, is_colons, is_word, name_of, operand_of};
 
-use rx_tree::{Name, Oper, Operand, OutOfMemory, Text, TokenKind, Value};
+use rx_tree::line::{Name, Operand};
+use rx_tree::{Oper, OutOfMemory, Text, TokenKind, Value};
 
 /// Whether a token is `~`.
 pub fn is_send(token: &TokenKind) -> bool

@@ -6,17 +6,17 @@ use Rattle.std.proofs.lemmas.Bool.{both_ways}
 use Rattle.rx_tree.specs.Bytes.{longest}
 use Rattle.rx_tree.specs.declared.value.Value.{Value}
 use Rattle.rx_tree.specs.declared.value.Value.TheVariants.{Str, Ref}
-use Rattle.rx_tree.specs.declared.name.Name.{Name}
+use Rattle.rx_tree.specs.declared.line.name.Name.{Name}
 use Rattle.rx_tree.specs.declared.name.Derived.{Derived}
 use Rattle.rx_tree.specs.declared.name.Derived.TheVariants.{Simple}
 use Rattle.rx_tree.specs.declared.name.Place.{Place}
 use Rattle.rx_tree.specs.declared.name.Place.TheVariants.{Here, Below, Pool}
 use Rattle.rx_tree.specs.declared.class.MethodDef.{MethodDef}
-use Rattle.rx_tree.specs.declared.expr.Expr.{Expr}
+use Rattle.rx_tree.specs.declared.line.expr.Expr.{Expr}
 use Rattle.rx_tree.specs.declared.sent.Sent.{Sent}
-use Rattle.rx_tree.specs.declared.clause.Clause.{Clause}
-use Rattle.rx_tree.specs.declared.clause.ClauseKind.{ClauseKind}
-use Rattle.rx_tree.specs.declared.clause.ClauseKind.TheVariants.{Say, Assign, Nop, Return, Expose, UseArg, Message}
+use Rattle.rx_tree.specs.declared.line.clause.Clause.{Clause}
+use Rattle.rx_tree.specs.declared.line.clause.ClauseKind.{ClauseKind}
+use Rattle.rx_tree.specs.declared.line.clause.ClauseKind.TheVariants.{Say, Assign, Nop, Return, Expose, UseArg, Message}
 use Rattle.rx_tree.specs.declared.activity.Outcome.{Outcome}
 use Rattle.rx_tree.specs.declared.activity.Outcome.TheVariants.{Failed}
 use Rattle.rx_tree.specs.Object.{Object, Plain, Sending}

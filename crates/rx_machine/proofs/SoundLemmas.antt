@@ -5,7 +5,7 @@ use Rattle.std.specs.Prelude.{IsTrue, ◌==◌, is_none, slice_get, slice_set}
 use Rattle.std.specs.Cmp.{first_so, second_so}
 use Rattle.std.proofs.lemmas.Bool.{false≢true, eqb-true, cases_eq}
 use Rattle.std.proofs.lemmas.Option.{slice_get_within}
-use Rattle.rx_tree.specs.declared.clause.Package.{Package}
+use Rattle.rx_tree.specs.declared.line.clause.Package.{Package}
 use Rattle.rx_tree.specs.Object.{Sending}
 use Rattle.rx_tree.specs.Frame.{Frame, Owner}
 use Rattle.rx_tree.specs.World.{World, Activity, State, NotLive, Live, Over, Wait, Nothing, First, ForMessage, AtGuard}

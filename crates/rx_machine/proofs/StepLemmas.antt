@@ -8,11 +8,11 @@ use Rattle.rx_tree.specs.declared.note.Note.TheVariants.{Error}
 use Rattle.rx_tree.specs.declared.value.Value.{Value}
 use Rattle.rx_tree.specs.declared.value.Value.TheVariants.{Str, Ref}
 use Rattle.rx_tree.specs.declared.class.MethodDef.{MethodDef}
-use Rattle.rx_tree.specs.declared.expr.Expr.{Expr}
+use Rattle.rx_tree.specs.declared.line.expr.Expr.{Expr}
 use Rattle.rx_tree.specs.declared.sent.Sent.{Sent}
-use Rattle.rx_tree.specs.declared.clause.Clause.{Clause}
-use Rattle.rx_tree.specs.declared.clause.ClauseKind.{ClauseKind}
-use Rattle.rx_tree.specs.declared.clause.ClauseKind.TheVariants.{Say, Assign, Nop, Return, Expose, UseArg, Message}
+use Rattle.rx_tree.specs.declared.line.clause.Clause.{Clause}
+use Rattle.rx_tree.specs.declared.line.clause.ClauseKind.{ClauseKind}
+use Rattle.rx_tree.specs.declared.line.clause.ClauseKind.TheVariants.{Say, Assign, Nop, Return, Expose, UseArg, Message}
 use Rattle.rx_tree.specs.Frame.{Frame, Todo, Whole, Partly}
 use Rattle.rx_tree.specs.declared.activity.Outcome.{Outcome}
 use Rattle.rx_tree.specs.declared.activity.Outcome.TheVariants.{Failed}

@@ -7,9 +7,9 @@ use Rattle.rx_tree.specs.declared.value.Value.TheVariants.{Str, Ref}
 use Rattle.rx_tree.specs.declared.name.Derived.TheVariants.{Simple}
 use Rattle.rx_tree.specs.declared.class.MethodDef.{MethodDef}
 use Rattle.rx_tree.specs.declared.class.ClassDef.{ClassDef}
-use Rattle.rx_tree.specs.declared.clause.Clause.{Clause}
-use Rattle.rx_tree.specs.declared.clause.Body.{Body}
-use Rattle.rx_tree.specs.declared.clause.Package.{Package}
+use Rattle.rx_tree.specs.declared.line.clause.Clause.{Clause}
+use Rattle.rx_tree.specs.declared.line.clause.Body.{Body}
+use Rattle.rx_tree.specs.declared.line.clause.Package.{Package}
 use Rattle.rx_tree.specs.declared.sent.Sent.{Sent}
 use Rattle.rx_tree.specs.declared.activity.FrameKind.TheVariants as kind
 use Rattle.rx_tree.specs.declared.activity.TraceSetting.TheVariants.{Off}

@@ -3,15 +3,15 @@ use Rattle.std.specs.Prelude.{ℕ, ◌+◌, Bool, true, false, List, [], ◌∷�
 use Rattle.rx_tree.specs.declared.value.Value.{Value}
 use Rattle.rx_tree.specs.declared.value.Value.TheVariants.{Str, Ref}
 use Rattle.rx_tree.specs.declared.name.Derived.TheVariants.{Simple}
-use Rattle.rx_tree.specs.declared.expr.Expr.{Expr}
-use Rattle.rx_tree.specs.declared.expr.Operand.{Operand}
-use Rattle.rx_tree.specs.declared.expr.Operand.TheVariants as operand
-use Rattle.rx_tree.specs.declared.expr.SendPart.{SendPart}
-use Rattle.rx_tree.specs.declared.expr.Term.{Term}
+use Rattle.rx_tree.specs.declared.line.expr.Expr.{Expr}
+use Rattle.rx_tree.specs.declared.line.expr.Operand.{Operand}
+use Rattle.rx_tree.specs.declared.line.expr.Operand.TheVariants as operand
+use Rattle.rx_tree.specs.declared.line.expr.SendPart.{SendPart}
+use Rattle.rx_tree.specs.declared.line.expr.Term.{Term}
 use Rattle.rx_tree.specs.declared.sent.Sent.{Sent}
-use Rattle.rx_tree.specs.declared.clause.Clause.{Clause}
-use Rattle.rx_tree.specs.declared.clause.ClauseKind.{ClauseKind}
-use Rattle.rx_tree.specs.declared.clause.ClauseKind.TheVariants.{Say, Assign, Nop, Return, Expose, UseArg, Message}
+use Rattle.rx_tree.specs.declared.line.clause.Clause.{Clause}
+use Rattle.rx_tree.specs.declared.line.clause.ClauseKind.{ClauseKind}
+use Rattle.rx_tree.specs.declared.line.clause.ClauseKind.TheVariants.{Say, Assign, Nop, Return, Expose, UseArg, Message}
 use Rattle.rx_tree.specs.Frame.{Frame, Todo, Whole, Partly}
 use Rattle.rx_tree.specs.World.{World, Activity, Wait, Nothing, First}
 use Rattle.rx_machine.specs.Enabled.{activity_at}

@@ -7,7 +7,8 @@ ghost use Rattle.rx_machine.specs.Sending.{clauses_at};
 ghost use Rattle.rx_store.specs.Program.{IsTable, AreMethodTables, method_names, names_of};
 
 use crate::names::Names;
-use rx_tree::{ClassDef, Clause, MethodDef, OutOfMemory, Package, Text, Value};
+use rx_tree::line::{Clause, Package};
+use rx_tree::{ClassDef, MethodDef, OutOfMemory, Text, Value};
 use sqlite_items::Items;
 use std::alloc::Global;
 use std::marker::Model;
@@ -34,7 +35,7 @@ impl Drop for Program {
 }
 
 impl Model for Program {
-    ghost use Rattle.rx_tree.specs.declared.clause.Package.{Package};
+    ghost use Rattle.rx_tree.specs.declared.line.clause.Package.{Package};
     ghost use Rattle.rx_store.specs.Program.{IsTabled};
 
     ghost Value = { Package };

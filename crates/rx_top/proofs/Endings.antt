@@ -1,7 +1,7 @@
 -- How a call ends, from what its parts say.
 use Rattle.std.proofs.Common.{lit<, ◌≡◌, ◌<◌, inl, inr, ℕ, List, [], Option, None, Some, refl, sym, ◌∙◌, subst, arith}
 use Rattle.std.specs.Io.KnownBytes.{Appends}
-use Rattle.rx_tree.specs.declared.clause.Package.{Package}
+use Rattle.rx_tree.specs.declared.line.clause.Package.{Package}
 use Rattle.rx_tree.specs.World.{World, Ending}
 use Rattle.rx_tree.specs.World as world
 use Rattle.rx_machine.specs.declared.end.End.{End}

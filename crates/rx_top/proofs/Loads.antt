@@ -2,7 +2,7 @@
 use Rattle.std.proofs.Common.{◌≡◌, ◌≤◌, ◌<◌, ℕ, List, length, take, sym, ◌∙◌, subst, Option, Vec, arith, min, length-take}
 use Rattle.std.proofs.lemmas.List.{take_all}
 use Rattle.std.specs.declared.alloc.Global.{Global}
-use Rattle.rx_tree.specs.declared.clause.Package.{Package}
+use Rattle.rx_tree.specs.declared.line.clause.Package.{Package}
 use Rattle.rx_ports.specs.Shelves.{Files, Fetches, HasFile}
 use Rattle.rx_ports.specs.declared.shelf.Fetched.TheVariants.{Bytes}
 use Rattle.rx_lines.specs.Programs.{IsProgram}

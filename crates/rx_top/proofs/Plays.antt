@@ -1,6 +1,6 @@
 -- A run that reads no input is the same whatever input there is.
 use Rattle.std.proofs.Common.{◌≡◌, ◌≢◌, ◌+◌, ℕ, Bool, List, [], ◌++◌, true, false, None, length, refl, sym, ◌∙◌, ap, subst, arith}
-use Rattle.rx_tree.specs.declared.clause.Package.{Package}
+use Rattle.rx_tree.specs.declared.line.clause.Package.{Package}
 use Rattle.rx_tree.specs.World.{World}
 use Rattle.rx_machine.specs.Enabled.{holder_before}
 use Rattle.rx_machine.specs.Opening.{opening}

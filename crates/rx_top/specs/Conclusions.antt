@@ -1,6 +1,6 @@
 -- What a call has to tell, and why.
 use Rattle.std.specs.Prelude.{◌≡◌, ℕ, List, [], ◌∷◌, ◌++◌, Option, None, Some, codes}
-use Rattle.rx_tree.specs.declared.clause.Package.{Package}
+use Rattle.rx_tree.specs.declared.line.clause.Package.{Package}
 use Rattle.rx_ports.specs.Causes.{Rose}
 use Rattle.rx_ports.specs.Shelves.{Files}
 use Rattle.rx_top.specs.declared.words.Request.{Request}

@@ -1,6 +1,6 @@
 -- What the file of a program has.
 use Rattle.std.specs.Prelude.{ℕ, List, Option}
-use Rattle.rx_tree.specs.declared.clause.Package.{Package}
+use Rattle.rx_tree.specs.declared.line.clause.Package.{Package}
 use Rattle.rx_tree.specs.Valid.{IsValid}
 use Rattle.rx_ports.specs.Shelves.{Files, HasFile}
 use Rattle.rx_lines.specs.Programs.{IsProgram}

@@ -1,6 +1,6 @@
 -- A program run to its end.
 use Rattle.std.specs.Prelude.{◌≡◌, ◌≢◌, ℕ, List, length, true, None}
-use Rattle.rx_tree.specs.declared.clause.Package.{Package}
+use Rattle.rx_tree.specs.declared.line.clause.Package.{Package}
 use Rattle.rx_tree.specs.World.{World}
 use Rattle.rx_machine.specs.Opening.{opening}
 use Rattle.rx_machine.specs.Input.{lines}

@@ -5,7 +5,7 @@ ghost use Rattle.rx_top.specs.Loading.{IsLoaded, IsValidIfFound};
 
 use rx_lines::read_program;
 use rx_ports::{Fetched, Shelf};
-use rx_tree::Package;
+use rx_tree::line::Package;
 use std::alloc::Global;
 
 /// What a program's file gives.

@@ -4,8 +4,8 @@ use Rattle.rx_tree.specs.declared.value.Value.{Value}
 use Rattle.rx_tree.specs.declared.name.Derived.{Derived}
 use Rattle.rx_tree.specs.declared.name.Place.{Place}
 use Rattle.rx_tree.specs.declared.class.Scope.{Scope}
-use Rattle.rx_tree.specs.declared.expr.Expr.{Expr}
-use Rattle.rx_tree.specs.declared.clause.Clause.{Clause}
+use Rattle.rx_tree.specs.declared.line.expr.Expr.{Expr}
+use Rattle.rx_tree.specs.declared.line.clause.Clause.{Clause}
 use Rattle.rx_tree.specs.declared.activity.FrameKind.{FrameKind}
 use Rattle.rx_tree.specs.declared.activity.TraceSetting.{TraceSetting}
 use Rattle.rx_tree.specs.declared.activity.Condition.{Condition}

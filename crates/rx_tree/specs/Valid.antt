@@ -3,7 +3,7 @@ use Rattle.std.specs.Prelude.{ℕ, ◌<◌, ◌≤◌, List, length}
 use Rattle.std.specs.List.{All}
 use Rattle.rx_tree.specs.declared.class.MethodDef.{MethodDef}
 use Rattle.rx_tree.specs.declared.class.ClassDef.{ClassDef}
-use Rattle.rx_tree.specs.declared.clause.Package.{Package}
+use Rattle.rx_tree.specs.declared.line.clause.Package.{Package}
 
 -- the most classes that a package has
 abbrev pub most_classes : ℕ

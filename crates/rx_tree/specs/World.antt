@@ -1,7 +1,7 @@
 -- The state of the activity machine.
 use Rattle.std.specs.Prelude.{ℕ, Bool, List, Option}
 use Rattle.rx_tree.specs.declared.value.Value.{Value}
-use Rattle.rx_tree.specs.declared.clause.Package.{Package}
+use Rattle.rx_tree.specs.declared.line.clause.Package.{Package}
 use Rattle.rx_tree.specs.declared.note.Note.{Note}
 use Rattle.rx_tree.specs.Frame.{Frame}
 use Rattle.rx_tree.specs.Object.{Object, Pool}

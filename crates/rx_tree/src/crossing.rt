@@ -1,7 +1,7 @@
 //! What a run keeps may be sent to another thread, and shared with it: each call here compiles for its type alone.
 
 use crate::activity::{Caught, Outcome};
-use crate::clause::Package;
+use crate::line::Package;
 use crate::name::Derived;
 use crate::note::Note;
 use crate::text::Text;

@@ -6,9 +6,8 @@
 
 mod activity;
 mod class;
-mod clause;
 mod crossing;
-mod expr;
+pub mod line;
 mod name;
 mod note;
 mod sent;
@@ -19,13 +18,11 @@ mod value;
 
 pub use activity::{Caught, Condition, FrameKind, Outcome, TraceSetting};
 pub use class::{ClassDef, MethodDef, Scope};
-pub use clause::{Body, Clause, ClauseKind, Package};
 pub use crossing::{
     caught_crosses, derived_crosses, note_crosses, outcome_crosses, package_crosses, text_crosses,
     token_crosses, value_crosses,
 };
-pub use expr::{Expr, Operand, SendPart, Term};
-pub use name::{Derived, Name, Part, Place};
+pub use name::{Derived, Part, Place};
 pub use note::Note;
 pub use sent::Sent;
 pub use steps::Steps;

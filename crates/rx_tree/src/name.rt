@@ -11,13 +11,6 @@ pub enum Part {
     Of(Text),
 }
 
-/// A variable's name as it is written. Letters are in upper case.
-#[derive(Drop)]
-pub enum Name {
-    /// A simple variable.
-    Simple(Text),
-}
-
 /// A variable's name whose tail parts are replaced by their values. Letters are in upper case.
 #[derive(Drop)]
 pub enum Derived {

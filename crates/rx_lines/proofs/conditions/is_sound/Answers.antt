@@ -2,7 +2,7 @@ use Rattle.std.proofs.Common.{◌≡◌, ◌≤◌, Bool, true, List, [], length
 use Rattle.std.specs.Prelude.{IfOk}
 use Rattle.std.specs.List.{list_all}
 use Rattle.rx_tree.specs.declared.class.ClassDef.{ClassDef}
-use Rattle.rx_tree.specs.declared.clause.Package.{Package}
+use Rattle.rx_tree.specs.declared.line.clause.Package.{Package}
 use Rattle.rx_tree.specs.Valid.{most_classes}
 use Rattle.rx_lines.specs.Conditions.{are_new, class_names, all_method_names, is_free_class, stands_anywhere, is_method_body, is_known, is_sound}
 use Rattle.rx_lines.specs.Names.{is_in}

@@ -1,5 +1,5 @@
 use Rattle.std.proofs.Common.{◌∙◌, List, map, sym, ap}
-use Rattle.rx_tree.specs.declared.name.Name.{Name}
+use Rattle.rx_tree.specs.declared.line.name.Name.{Name}
 use Rattle.rx_tree.specs.Frame.{Whole}
 use Rattle.rx_machine.specs.Variables.{assigned_all}
 use Rattle.rx_machine.specs.Step.{finish}

@@ -1,5 +1,5 @@
 use Rattle.std.proofs.Common.{◌≡◌, ℕ, List, length}
-use Rattle.rx_tree.specs.declared.clause.Package.{Package}
+use Rattle.rx_tree.specs.declared.line.clause.Package.{Package}
 use Rattle.rx_tree.specs.World.{Activity}
 use Rattle.rx_machine.specs.Raising.{raise}
 use Rattle.rx_kernel.specs.Frames.{frames_of}

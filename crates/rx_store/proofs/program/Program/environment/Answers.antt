@@ -1,5 +1,5 @@
 use Rattle.std.proofs.Common.{ℕ, List, Some, None, ◌≡◌, ◌∙◌, sym, ap, drop, arith}
-use Rattle.rx_tree.specs.declared.clause.Package.{Package}
+use Rattle.rx_tree.specs.declared.line.clause.Package.{Package}
 use Rattle.rx_tree.specs.declared.value.Value.TheVariants.{Str}
 use Rattle.rx_machine.specs.Classes.{first_class, class_from}
 use Rattle.rx_store.specs.Names.{first_at}

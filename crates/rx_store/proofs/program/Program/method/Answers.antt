@@ -1,6 +1,6 @@
 use Rattle.std.proofs.Common.{◌-◌, ◌∙◌, sym, ap, subst, arith}
 use Rattle.std.specs.Option.{option_copied}
-use Rattle.rx_tree.specs.declared.clause.Package.{Package}
+use Rattle.rx_tree.specs.declared.line.clause.Package.{Package}
 use Rattle.rx_machine.specs.Classes.{first_class}
 use Rattle.rx_store.specs.Program.{IsTable, AreMethodTables, method_names}
 use Rattle.rx_store.proofs.ProgramLemmas.{method_of-none, method_of-some, method_in-at, method_in-none, class_at-place, table-at, table-none}

@@ -1,7 +1,7 @@
 // Clauses, bodies and packages.
 use crate::class::ClassDef;
-use crate::expr::{Expr, Term};
-use crate::name::Name;
+use crate::line::expr::{Expr, Term};
+use crate::line::name::Name;
 use crate::text::Text;
 use sqlite_items::Items;
 

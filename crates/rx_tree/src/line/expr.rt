@@ -1,7 +1,7 @@
 // Expressions.
 ghost use Rattle.std.specs.Prelude.{◌≡◌};
 
-use crate::name::Name;
+use crate::line::name::Name;
 use crate::text::Text;
 use crate::value::Value;
 use sqlite_items::Items;
