@@ -6,6 +6,13 @@ pub mod Marks
 pub mod Comments
 pub mod Pieces
 pub mod Spelling
+pub mod Codes
+pub mod Equality
+pub mod Nesting
+pub mod StopWords
+pub mod Operators
+pub mod Terms
+pub mod Expressions
 pub mod Valid
 pub mod Object
 pub mod Frame

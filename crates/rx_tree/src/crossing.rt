@@ -1,6 +1,7 @@
 //! What a run keeps may be sent to another thread, and shared with it: each call here compiles for its type alone.
 
 use crate::activity::{Caught, Outcome};
+use crate::expr::Expr;
 use crate::line::Package;
 use crate::name::Derived;
 use crate::note::Note;
@@ -29,6 +30,11 @@ pub fn token_crosses(token: &Token) {
 /// A name may be sent and shared.
 pub fn derived_crosses(name: &Derived) {
     crosses_threads(name);
+}
+
+/// An expression may be sent and shared.
+pub fn expr_crosses(expr: &Expr) {
+    crosses_threads(expr);
 }
 
 /// A trapped condition may be sent and shared.

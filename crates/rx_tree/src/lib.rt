@@ -7,11 +7,15 @@
 mod activity;
 mod class;
 mod crossing;
+mod equality;
+mod expr;
 pub mod line;
 mod name;
+mod nesting;
 mod note;
 mod sent;
 mod steps;
+mod stops;
 mod text;
 mod token;
 mod value;
@@ -19,13 +23,15 @@ mod value;
 pub use activity::{Caught, Condition, FrameKind, Outcome, TraceSetting};
 pub use class::{ClassDef, MethodDef, Scope};
 pub use crossing::{
-    caught_crosses, derived_crosses, note_crosses, outcome_crosses, package_crosses, text_crosses,
-    token_crosses, value_crosses,
+    caught_crosses, derived_crosses, expr_crosses, note_crosses, outcome_crosses, package_crosses,
+    text_crosses, token_crosses, value_crosses,
 };
-pub use name::{Derived, Part, Place};
+pub use expr::{Expr, SendPart};
+pub use name::{Derived, Name, Part, Place};
 pub use note::Note;
 pub use sent::Sent;
 pub use steps::Steps;
+pub use stops::Stops;
 pub use text::{OutOfMemory, Text};
 pub use token::{Oper, Token, TokenKind};
 pub use value::Value;

@@ -1,0 +1,13 @@
+pub mod Tables
+pub mod Written
+pub mod Levels
+pub mod Heads
+pub mod Steps
+pub mod Taking
+pub mod Parts
+pub mod Giving
+pub mod Shorter
+pub mod Steady
+pub mod Law
+pub mod Ways
+pub mod Fronts
