@@ -11,7 +11,8 @@ fn show_text(shown: &mut Vec<u8>, mark: u8, text: &[u8]) -> Result<(), AllocErro
     shown.extend_from_slice(text)
 }
 
-fn show_parts(shown: &mut Vec<u8>, parts: &[Part]) -> Result<(), AllocError> {
+/// The parts of a tail as text: a part that stands for itself behind `=`, and one that is a variable behind `$`.
+pub fn show_parts(shown: &mut Vec<u8>, parts: &[Part]) -> Result<(), AllocError> {
     for part in parts {
         match part {
             Part::Fixed(text) => show_text(shown, b'=', text.bytes())?,

@@ -3,8 +3,6 @@ use Rattle.std.proofs.Common.{◌≡◌, ℕ, zero, suc, ◌<◌, true, false, i
 use Rattle.std.proofs.lemmas.List.{append-nil}
 use Rattle.rx_tree.specs.declared.token.Oper.{Oper}
 use Rattle.rx_tree.specs.declared.token.Token.{Token}
-use Rattle.rx_tree.specs.declared.token.TokenKind.{TokenKind}
-use Rattle.rx_tree.specs.declared.token.TokenKind.TheVariants as k
 use Rattle.rx_tree.specs.declared.expr.Expr.{Expr}
 use Rattle.rx_tree.specs.declared.expr.Expr.TheVariants as e
 use Rattle.rx_tree.specs.declared.expr.SendPart.{SendPart}
@@ -182,8 +180,8 @@ mutual
       let list = call-taken m b.behind d.first d.behind d.was in
       as-answered (λ x y. OnePart t x tokens y) (part a.first b.first d.first back false) one d.behind rest d.went (record {
         before = λ parts others sent.
-        subst (λ (ts : Tokens). Sent (part a.first b.first d.first back false ∷ parts) (t ∷ ts) others) (sym u.is)
-        (message t u.token a.first p u.fact class list sent);
+            subst (λ (ts : Tokens). Sent (part a.first b.first d.first back false ∷ parts) (t ∷ ts) others) (sym u.is)
+            (message t u.token a.first p u.fact class list sent);
       })
   part-taken (suc m) t Bracket tokens one rest p is =
       let a = came (args m Square tokens) (λ list rest. Ok (part [] None list false true, rest)) (one, rest) is in

@@ -5,7 +5,6 @@ use Rattle.rx_tree.specs.declared.token.Token.{Token}
 use Rattle.rx_tree.specs.declared.token.TokenKind.{TokenKind}
 use Rattle.rx_tree.specs.declared.token.TokenKind.TheVariants as k
 use Rattle.rx_tree.specs.declared.expr.Expr.{Expr}
-use Rattle.rx_tree.specs.declared.expr.Expr.TheVariants as e
 use Rattle.rx_tree.specs.declared.expr.SendPart.{SendPart}
 use Rattle.rx_tree.specs.declared.stops.Stops.{Stops}
 use Rattle.rx_tree.specs.Operators.{Tokens, sign_of}
@@ -29,7 +28,7 @@ call-shorter (t ∷ others) behind is = go t.kind t.blank is
     go _ true e = cc
 
 pub signed-shorter : {opers : List Oper} {tokens rest : Tokens} → AreSigns opers tokens rest → length rest ≤ length tokens
-signed-shorter sign_none = omega arith
+signed-shorter no_sign = omega arith
 signed-shorter (sign t is later) = let h = signed-shorter later in omega arith
 
 pub above-shorter : {class : Option (List ℕ)} {tokens rest : Tokens} → IsAbove class tokens rest → length rest ≤ length tokens

@@ -5,7 +5,6 @@ use Rattle.rx_tree.specs.declared.name.Name.TheVariants as n
 use Rattle.rx_tree.specs.declared.value.Value.{Value}
 use Rattle.rx_tree.specs.declared.value.Value.TheVariants.{Str}
 use Rattle.rx_tree.specs.declared.token.Oper.{Oper}
-use Rattle.rx_tree.specs.declared.token.Token.{Token}
 use Rattle.rx_tree.specs.declared.token.TokenKind.{TokenKind}
 use Rattle.rx_tree.specs.declared.token.TokenKind.TheVariants as k
 use Rattle.rx_tree.specs.declared.expr.Expr.{Expr}

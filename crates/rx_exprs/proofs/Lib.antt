@@ -11,3 +11,4 @@ pub mod Steady
 pub mod Law
 pub mod Ways
 pub mod Fronts
+pub mod Places

@@ -5,7 +5,6 @@ use Rattle.rx_tree.specs.declared.token.Token.{Token}
 use Rattle.rx_tree.specs.declared.token.TokenKind.{TokenKind}
 use Rattle.rx_tree.specs.declared.token.TokenKind.TheVariants as k
 use Rattle.rx_tree.specs.declared.expr.Expr.{Expr}
-use Rattle.rx_tree.specs.declared.expr.Expr.TheVariants as e
 use Rattle.rx_tree.specs.declared.expr.SendPart.{SendPart}
 use Rattle.rx_tree.specs.declared.stops.Stops.{Stops}
 use Rattle.rx_tree.specs.Operators.{Tokens, sign_of}

@@ -1,9 +1,6 @@
 -- What is read is taken away.
 use Rattle.std.proofs.Common.{◌≡◌, ℕ, suc, zero, ◌+◌, ◌*◌, ◌<◌, ◌≤◌, Bool, true, false, if◌then◌else◌, List, [], ◌∷◌, length, Option, Some, None, Ok, Err, ap, arith}
 use Rattle.rx_tree.specs.declared.token.Oper.{Oper}
-use Rattle.rx_tree.specs.declared.token.Token.{Token}
-use Rattle.rx_tree.specs.declared.token.TokenKind.{TokenKind}
-use Rattle.rx_tree.specs.declared.token.TokenKind.TheVariants as k
 use Rattle.rx_tree.specs.declared.expr.Expr.{Expr}
 use Rattle.rx_tree.specs.declared.expr.SendPart.{SendPart}
 use Rattle.rx_tree.specs.declared.stops.Stops.{Stops}
@@ -19,9 +16,9 @@ use Rattle.rx_exprs.specs.declared.operators.Bracketed.TheVariants.{Square}
 use Rattle.rx_exprs.specs.declared.operators.End.{End}
 use Rattle.rx_exprs.specs.declared.words.Word.{Word}
 use Rattle.rx_exprs.specs.Marks.{is_left, left_at, opened_at, end_at}
-use Rattle.rx_exprs.specs.Reader.{Outcome, and_then, refusal, signs, operator_of, name_at, above_at, loosest, one_part, call_args, args}
+use Rattle.rx_exprs.specs.Reader.{and_then, refusal, signs, operator_of, name_at, above_at, loosest, one_part, call_args, args}
 use Rattle.rx_exprs.specs.Words.{word_of, worded, word_at}
-use Rattle.rx_exprs.specs.Forms.{level_form, parts_form, part_form, call_form, args_form, argument_form}
+use Rattle.rx_exprs.specs.Forms.{level_form, parts_form, part_form, args_form, argument_form}
 use Rattle.rx_exprs.proofs.Tables.{some-is, ok-is, found-is, here-operator}
 use Rattle.rx_exprs.proofs.Heads.{call-shorter, signed-shorter, above-shorter, shorter, sent-shorter, called-shorter, args-shorter}
 use Rattle.rx_exprs.proofs.Parts.{came, either, opened-is, name-is, above-is, end-found, signed-all}

@@ -1,9 +1,7 @@
 -- More turns than are needed change nothing, so each form is made of the forms below it.
-use Rattle.std.proofs.Common.{◌≡◌, ℕ, zero, suc, ◌+◌, ◌*◌, ◌<◌, Bool, true, false, if◌then◌else◌, List, [], ◌∷◌, ◌++◌, length, Option, Some, None, Ok, Err, refl, sym, ◌∙◌, ap, arith}
+use Rattle.std.proofs.Common.{◌≡◌, ℕ, zero, suc, ◌+◌, ◌*◌, ◌<◌, Bool, true, false, if◌then◌else◌, List, [], ◌∷◌, ◌++◌, length, Option, Some, None, Ok, Err, refl, ◌∙◌, ap, arith}
 use Rattle.rx_tree.specs.declared.token.Oper.{Oper}
 use Rattle.rx_tree.specs.declared.token.Token.{Token}
-use Rattle.rx_tree.specs.declared.token.TokenKind.{TokenKind}
-use Rattle.rx_tree.specs.declared.token.TokenKind.TheVariants as k
 use Rattle.rx_tree.specs.declared.expr.Expr.{Expr}
 use Rattle.rx_tree.specs.declared.expr.Expr.TheVariants as e
 use Rattle.rx_tree.specs.declared.expr.SendPart.{SendPart}

@@ -1,5 +1,5 @@
 -- Single steps of the reader.
-use Rattle.std.proofs.Common.{◌≡◌, ◌≢◌, ℕ, zero, suc, ◌+◌, ◌<◌, Bool, true, false, List, [], ◌∷◌, Option, Some, None, Ok, refl, ap, arith}
+use Rattle.std.proofs.Common.{◌≡◌, ◌≢◌, ℕ, zero, suc, ◌+◌, ◌<◌, true, false, List, [], ◌∷◌, Option, Some, None, Ok, refl, ap, arith}
 use Rattle.rx_tree.specs.declared.token.Oper.{Oper}
 use Rattle.rx_tree.specs.declared.token.Token.{Token}
 use Rattle.rx_tree.specs.declared.token.TokenKind.{TokenKind}
@@ -11,13 +11,13 @@ use Rattle.rx_tree.specs.declared.stops.Stops.{Stops}
 use Rattle.rx_tree.specs.declared.stops.Stops.TheVariants as s
 use Rattle.rx_tree.specs.StopWords.{is_stop}
 use Rattle.rx_tree.specs.Operators.{Tokens}
-use Rattle.rx_tree.specs.Terms.{term_of, name_of, is_string, class_of, call_at, is_colon, colon_follows}
+use Rattle.rx_tree.specs.Terms.{term_of, name_of, is_string, call_at, is_colon, colon_follows}
 use Rattle.rx_tree.specs.Expressions.{AreSigns, no_sign, sign, IsAbove, no_above}
 use Rattle.rx_tree.specs.Expressions as p
 use Rattle.rx_exprs.specs.declared.operators.Bracketed.{Bracketed}
 use Rattle.rx_exprs.specs.declared.operators.Bracketed.TheVariants.{Round}
 use Rattle.rx_exprs.specs.declared.operators.End.{End}
-use Rattle.rx_exprs.specs.declared.operators.End.TheVariants.{Comma, Close}
+use Rattle.rx_exprs.specs.declared.operators.End.TheVariants.{Comma}
 use Rattle.rx_exprs.specs.Marks.{is_left, opened, opened_at, end_of, end_at, if_close, ended_at}
 use Rattle.rx_exprs.specs.Reader.{with_parts, with_signs, with_terms, signs, above_at, loosest, read, primary, terms, parts, args}
 use Rattle.rx_exprs.proofs.Tables.{opening_at, next_level, no-opening-at, no-operator, next-operator}

@@ -1,10 +1,8 @@
 -- What an expression is written with is read as it.
-use Rattle.std.proofs.Common.{◌≡◌, ◌≢◌, ℕ, suc, ◌+◌, ◌*◌, ◌<◌, true, false, List, [], ◌∷◌, ◌++◌, length, Option, Some, None, Ok, refl, ◌∙◌, ap, arith, append_assoc}
+use Rattle.std.proofs.Common.{◌≡◌, ℕ, suc, ◌+◌, ◌*◌, ◌<◌, true, false, List, [], ◌∷◌, ◌++◌, length, Option, Some, None, Ok, refl, ◌∙◌, ap, arith, append_assoc}
 use Rattle.std.proofs.lemmas.List.{append-nil}
 use Rattle.rx_tree.specs.declared.token.Oper.{Oper}
 use Rattle.rx_tree.specs.declared.token.Token.{Token}
-use Rattle.rx_tree.specs.declared.token.TokenKind.{TokenKind}
-use Rattle.rx_tree.specs.declared.token.TokenKind.TheVariants as k
 use Rattle.rx_tree.specs.declared.expr.Expr.{Expr}
 use Rattle.rx_tree.specs.declared.expr.Expr.TheVariants as e
 use Rattle.rx_tree.specs.declared.expr.SendPart.{SendPart}
@@ -15,7 +13,6 @@ use Rattle.rx_tree.specs.Terms.{is_string}
 use Rattle.rx_tree.specs.Expressions.{part}
 use Rattle.rx_exprs.specs.declared.operators.Opening.TheVariants.{Tilde, Bracket}
 use Rattle.rx_exprs.specs.declared.operators.Bracketed.{Bracketed}
-use Rattle.rx_exprs.specs.declared.operators.Bracketed.TheVariants.{Round, Square}
 use Rattle.rx_exprs.specs.declared.operators.End.{End}
 use Rattle.rx_exprs.specs.declared.operators.End.TheVariants.{Comma, Close}
 use Rattle.rx_exprs.specs.Marks.{end_of}

@@ -1,5 +1,5 @@
 -- The parts of an expression, each with turns enough, so that functions can be compared with them.
-use Rattle.std.specs.Prelude.{ℕ, ◌+◌, ◌*◌, List, ◌++◌, length, Option, Some, None, Ok}
+use Rattle.std.specs.Prelude.{ℕ, ◌+◌, ◌*◌, List, length, Option, Some, None, Ok}
 use Rattle.rx_tree.specs.declared.token.Oper.{Oper}
 use Rattle.rx_tree.specs.declared.expr.Expr.{Expr}
 use Rattle.rx_tree.specs.declared.expr.SendPart.{SendPart}

@@ -6,6 +6,8 @@ use Rattle.rx_tree.specs.Operators.{Tokens}
 use Rattle.rx_tree.specs.Expressions.{Fits}
 use Rattle.rx_exprs.specs.declared.refused.ParseRefused.{ParseRefused}
 use Rattle.rx_exprs.specs.declared.refused.ParseRefused.TheVariants.{Bad, OutOfMemory}
+use Rattle.rx_exprs.specs.declared.refused.Refused.{Refused}
+use Rattle.rx_exprs.specs.declared.refused.Refused.TheVariants as r
 use Rattle.rx_exprs.specs.Reader.{expression}
 
 -- no expression fits
@@ -22,3 +24,8 @@ pub record RefusesAt (stops : Stops) (tokens : Tokens) (from at number : ℕ) : 
 abbrev pub IsRefused : Stops → Tokens → ℕ → ParseRefused → Type 0
 IsRefused stops tokens from (Bad at number) = NoneFits stops (drop from tokens) × RefusesAt stops tokens from at number
 IsRefused stops tokens from OutOfMemory = Unit {0}
+
+-- a refusal of the reader, by the place of its token among so many
+abbrev pub placed : ℕ → Refused → ParseRefused
+placed count (r.Bad fault) = Bad (count - fault.left) fault.number
+placed count r.OutOfMemory = OutOfMemory

@@ -1,5 +1,5 @@
 -- The reader of expressions, which refuses with the number of an error.
-use Rattle.std.specs.Prelude.{ℕ, zero, suc, ◌+◌, ◌*◌, Bool, true, false, if◌then◌else◌, ◌==◌, List, [], ◌∷◌, ◌++◌, length, Option, Some, None, Result, Ok, Err}
+use Rattle.std.specs.Prelude.{ℕ, zero, suc, ◌+◌, ◌*◌, true, false, if◌then◌else◌, ◌==◌, List, [], ◌∷◌, ◌++◌, length, Option, Some, None, Result, Ok, Err}
 use Rattle.rx_tree.specs.declared.token.Oper.{Oper}
 use Rattle.rx_tree.specs.declared.token.TokenKind.{TokenKind}
 use Rattle.rx_tree.specs.declared.token.TokenKind.TheVariants as k

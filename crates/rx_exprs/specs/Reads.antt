@@ -1,5 +1,5 @@
 -- What functions that read ensure.
-use Rattle.std.specs.Prelude.{ℕ, ◌≡◌, ◌≢◌, Bool, true, false, Option, Some, None, Result, Ok, Err}
+use Rattle.std.specs.Prelude.{◌≡◌, ◌≢◌, Bool, true, false, Option, Some, None, Result, Ok, Err}
 use Rattle.rx_tree.specs.declared.token.Oper.{Oper}
 use Rattle.rx_tree.specs.Operators.{Tokens}
 use Rattle.rx_exprs.specs.declared.refused.Fault.{Fault}
@@ -7,7 +7,7 @@ use Rattle.rx_exprs.specs.declared.refused.Refused.{Refused}
 use Rattle.rx_exprs.specs.declared.refused.Refused.TheVariants.{Bad, OutOfMemory}
 use Rattle.rx_exprs.specs.declared.operators.Joint.{Joint}
 use Rattle.rx_exprs.specs.declared.operators.Joint.TheVariants as j
-use Rattle.rx_exprs.specs.Reader.{Outcome, lack}
+use Rattle.rx_exprs.specs.Reader.{Outcome}
 
 -- the refusal of the reader that a refusal is
 abbrev pub fault_of : Refused → Fault

@@ -6,8 +6,9 @@ ghost use Rattle.rx_exprs.specs.Reader.{unexpected, refusal, lack, operator_of, 
 ghost use Rattle.rx_exprs.specs.Words.{word_at};
 ghost use Rattle.rx_exprs.specs.Reads.{Takes, Eats, Reads, fault_of};
 
-use crate::operators::{Bracketed, End, Joint, Opening};
-use crate::operators::{end_of, is_stop, joint, level, opening_of, sign_of};
+use crate::operators::{
+    Bracketed, End, Joint, Opening, end_of, is_stop, joint_of, level, opening_of, sign_of,
+};
 use crate::refused::{Fault, NO_NAME, NO_OPERAND, NO_SYMBOL, Refused, UNEXPECTED};
 use crate::words::{Word, class_of, name_of, word_of};
 use rx_tree::{Oper, Stops, Text, Token, TokenKind};
@@ -230,7 +231,7 @@ impl<'a> Cursor<'a> {
             if is_stop(stops, &token.kind) {
                 return None;
             }
-            match joint(&token.kind, token.blank) {
+            match joint_of(&token.kind, token.blank) {
                 Joint::Here(oper) => {
                     if level(oper) == at {
                         return Some(oper);

@@ -145,7 +145,7 @@ fn join(blank: bool) -> Oper
 }
 
 /// What a token is behind an operand; the truth says whether a blank stands before it.
-pub fn joint(kind: &TokenKind, blank: bool) -> Joint
+pub fn joint_of(kind: &TokenKind, blank: bool) -> Joint
     ensures { IsJoint (λ here behind. spec.joint_of kind.now blank here behind) result }
 {
     match kind {

@@ -9,7 +9,7 @@ ghost use Rattle.rx_exprs.specs.Parsed.{IsRefused};
 
 use crate::cursor::Cursor;
 use crate::operators::{Bracketed, End, Opening};
-use crate::refused::{NO_OPERAND, ParseRefused, Refused, UNCLOSED};
+use crate::refused::{ParseRefused, Refused, UNCLOSED};
 use crate::trees::{make_chain, make_prefix, make_sends};
 use crate::words::{word_function, word_term};
 use rx_tree::{Expr, Oper, SendPart, Stops, Text, Token};
@@ -228,10 +228,6 @@ pub fn parse_expr(
     let mut cursor = Cursor::new(&tokens[from as usize..]);
     match chain(alloc, &mut cursor, stops, LOOSEST) {
         Ok(expr) => Ok((expr, (tokens.len() - cursor.left()) as u32)),
-        Err(Refused::Bad(fault)) => Err(ParseRefused::Bad {
-            at: tokens.len().saturating_sub(fault.left) as u32,
-            number: fault.number,
-        }),
-        Err(Refused::OutOfMemory) => Err(ParseRefused::OutOfMemory),
+        Err(refused) => Err(refused.among(tokens.len())),
     }
 }

@@ -45,6 +45,25 @@ pub enum Refused {
     OutOfMemory,
 }
 
+impl Refused {
+    ghost use Rattle.std.specs.Prelude.{◌≡◌, ◌<◌, ◌^◌};
+    ghost use Rattle.rx_exprs.specs.Parsed.{placed};
+
+    /// The refusal, by the place of its token among so many.
+    pub fn among(self, count: usize) -> ParseRefused
+        requires { count < 2 ^ 32 }
+        ensures { result ≡ placed count self }
+    {
+        match self {
+            Refused::Bad(fault) => ParseRefused::Bad {
+                at: count.saturating_sub(fault.left) as u32,
+                number: fault.number,
+            },
+            Refused::OutOfMemory => ParseRefused::OutOfMemory,
+        }
+    }
+}
+
 impl From<AllocError> for Refused {
     ghost use Rattle.std.specs.Prelude.{◌≡◌};
     ghost use Rattle.rx_exprs.specs.declared.refused.Refused.TheVariants as refused;

@@ -31,11 +31,7 @@ pub fn make_prefix(alloc: Global, opers: Items<Oper>, term: Expr) -> Result<Expr
 }
 
 /// A term, with the messages behind it.
-pub fn make_sends(
-    alloc: Global,
-    receiver: Expr,
-    parts: Items<SendPart>,
-) -> Result<Expr, AllocError>
+pub fn make_sends(alloc: Global, receiver: Expr, parts: Items<SendPart>) -> Result<Expr, AllocError>
     ensures { IfOk result (λ expr. expr ≡ with_parts receiver parts) }
 {
     if parts.is_empty() {

@@ -1,6 +1,6 @@
 // What stands on a line.
-use rx_tree::line::Clause;
 use rx_tree::Text;
+use rx_tree::line::Clause;
 
 /// What stands on a line: a clause, or a directive.
 #[derive(Drop)]

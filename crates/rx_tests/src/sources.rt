@@ -1,8 +1,8 @@
 // Sources: what a program keeps of its lines, and the two limits that a source can meet.
 use crate::calls::{assert_ended, assert_told, run};
 use rx_lines::read_program;
-use rx_tree::line::Clause;
 use rx_tree::Text;
+use rx_tree::line::Clause;
 use std::alloc::{AllocError, Global};
 use std::process::Abort;
 use std::test::Fail;
