@@ -1,0 +1,4 @@
+pub mod AnswerLemmas
+pub mod RowLemmas
+pub mod SpaceLemmas
+pub mod WordLemmas

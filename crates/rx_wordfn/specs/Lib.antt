@@ -1,0 +1,4 @@
+pub mod Answers
+pub mod Functions
+pub mod Lines
+pub mod Words

@@ -1,0 +1,16 @@
+//! The built-in functions on words, each exactly its definition on lists: WORDS, WORD, WORDINDEX, WORDLENGTH, WORDPOS,
+//! SUBWORD, DELWORD and SPACE.
+//!
+//! A word is a run of bytes without blanks, as long as it can be. Words and places are counted from 1.
+#![tactic(auto)]
+
+mod answer;
+mod cursor;
+mod parts;
+mod rows;
+mod spacing;
+
+pub use answer::{Bytes, INCORRECT_CALL, LONGEST, Number, RESOURCES_EXHAUSTED, Refused};
+pub use parts::{delword, subword, word, wordindex, wordlength, words};
+pub use rows::wordpos;
+pub use spacing::space;
