@@ -4,7 +4,6 @@
 mod bytes;
 mod comment;
 mod depth;
-mod digits;
 mod mark;
 mod piece;
 mod place;

@@ -6,9 +6,9 @@ ghost use Rattle.rx_scan.specs.Reader.{string_from, suffixed, string_at};
 ghost use Rattle.rx_scan.specs.Read.{HasNoQuote, IsRead, IsSplit, TextRead};
 
 use crate::bytes::begins_in_symbol;
-use crate::digits::packed;
 use crate::piece::{INVALID_DIGITS, Piece, Read, UNMATCHED};
 use memchr::memchr2;
+use rx_digits::packed;
 use rx_tree::{OutOfMemory, Text, TokenKind};
 use std::alloc::Global;
 

@@ -1,6 +1,6 @@
 use Rattle.std.proofs.Common.{◌≡◌, length}
 use Rattle.rx_tree.specs.Strings.{digits_in, group_of, is_grouped}
-use Rattle.rx_scan.proofs.digits.is_grouped.Given as goal
+use Rattle.rx_digits.proofs.is_grouped.Given as goal
 
 -- what was read is in order, and so many digits are left
 abbrev pub invariant-loop-rest : goal.invariant-loop-rest

@@ -1,5 +1,11 @@
-// The bytes of binary and hexadecimal strings.
-ghost use Rattle.std.specs.Prelude.{◌≡◌, ◌≤◌, ◌<◌, length, IfOk, IfSome, option_map};
+//! The digits of binary and hexadecimal texts, and the bytes that they stand for.
+//!
+//! Digits may stand in groups with blanks between them; no blank is outermost. Each group but the first has an even number
+//! of hexadecimal digits, or a multiple of four binary ones. The first `true` or `false` of a call says whether the digits
+//! are binary.
+#![tactic(auto)]
+
+ghost use Rattle.std.specs.Prelude.{◌≡◌, ◌≤◌, ◌<◌, ◌&&◌, length, IfOk, IfSome, option_map};
 ghost use Rattle.rx_tree.specs.Strings.{is_digit_in, digit_value, base_of, group_of, width_of, digits_in, is_grouped, is_trimmed, bytes_of, packed};
 
 use rx_text::is_blank;
@@ -16,7 +22,8 @@ fn is_digit_in(binary: bool, byte: u8) -> bool
     }
 }
 
-fn digit_value(byte: u8) -> u8
+/// What a digit counts, in either case.
+pub fn digit_value(byte: u8) -> u8
     ensures { result ≡ digit_value byte }
 {
     match byte {
@@ -26,7 +33,8 @@ fn digit_value(byte: u8) -> u8
     }
 }
 
-fn digits_in(text: &[u8]) -> usize
+/// How many digits stand in a text of digits and blanks.
+pub fn digits_in(text: &[u8]) -> usize
     ensures { result ≡ digits_in text.now }
 {
     text.iter().filter(|byte| !is_blank(**byte)).count()
@@ -68,7 +76,8 @@ fn is_grouped(binary: bool, text: &[u8]) -> bool
     true
 }
 
-fn bytes_of(alloc: Global, binary: bool, text: &[u8]) -> Result<Vec<u8>, OutOfMemory>
+/// The bytes of the digits of a text, which are filled up with zeros on the left to whole bytes.
+pub fn bytes_of(alloc: Global, binary: bool, text: &[u8]) -> Result<Vec<u8>, OutOfMemory>
     ensures value { IfOk result (λ bytes. bytes.items ≡ bytes_of binary 0 text.now) }
     ensures few { IfOk result (λ bytes. length bytes.items ≤ length text.now) }
 {
@@ -91,12 +100,20 @@ fn bytes_of(alloc: Global, binary: bool, text: &[u8]) -> Result<Vec<u8>, OutOfMe
     Ok(bytes)
 }
 
-/// The bytes of a binary or hexadecimal text, or none where it is none.
+/// Whether a text is one of binary or hexadecimal digits. The empty text is one.
+pub fn are_digits(binary: bool, text: &[u8]) -> bool
+    ensures { result ≡ (is_trimmed text.now && is_grouped binary text.now) }
+{
+    is_trimmed(text) && is_grouped(binary, text)
+}
+
+/// The bytes of a binary or hexadecimal text, or none where it is none. Its digits are filled up with zeros on the left to
+/// whole bytes.
 pub fn packed(alloc: Global, binary: bool, text: &[u8]) -> Result<Option<Vec<u8>>, OutOfMemory>
     ensures packed { IfOk result (λ found. option_map (λ bytes. bytes.items) found ≡ packed binary text.now) }
     ensures few { IfOk result (λ found. IfSome found (λ bytes. length bytes.items ≤ length text.now)) }
 {
-    if is_trimmed(text) && is_grouped(binary, text) {
+    if are_digits(binary, text) {
         return Ok(Some(bytes_of(alloc, binary, text)?));
     }
     Ok(None)

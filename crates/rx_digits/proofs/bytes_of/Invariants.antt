@@ -1,6 +1,6 @@
 use Rattle.std.proofs.Common.{◌≡◌, ◌<◌, ◌≤◌, ◌+◌, ◌++◌, length}
 use Rattle.rx_tree.specs.Strings.{digits_in, base_of, width_of, bytes_of}
-use Rattle.rx_scan.proofs.digits.bytes_of.Given as goal
+use Rattle.rx_digits.proofs.bytes_of.Given as goal
 
 -- the bytes so far and those of the rest
 abbrev pub invariant-loop-rest : goal.invariant-loop-rest
