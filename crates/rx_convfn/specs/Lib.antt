@@ -1,0 +1,4 @@
+pub mod Answers
+pub mod Conversions
+pub mod Digits
+pub mod Kinds
