@@ -125,8 +125,9 @@ not_blank byte e = grind arith
 spaces-plain : (w : List ℕ) → plain w ≡ true → count_by is_space w ≡ 0
 spaces-plain [] h = refl
 spaces-plain (byte ∷ w) h =
-    let rest = spaces-plain w (and_parts _ _ h).1 in
-    let first = ap {B = ℕ} (λ (b : Bool). cond b 1 0) (not_space byte (not_blank byte (and_parts _ _ h).0)) in
+    let rest : count_by is_space w ≡ 0 = spaces-plain w (and_parts _ _ h).1 in
+    let first : cond (is_space byte) 1 0 ≡ 0 =
+    ap {B = ℕ} (λ (b : Bool). cond b 1 0) (not_space byte (not_blank byte (and_parts _ _ h).0)) in
     sum_by-cons (λ b. cond (is_space b) 1 0) byte w ∙ omega (arith, first, rest)
 
 spaces-on : (hay w rest : List ℕ) (k : ℕ) → plain w ≡ true → hay ≡ (0x20 ∷ w) ++ rest → spaces_before hay (suc (length w) + k) ≡ spaces_before rest k + 1

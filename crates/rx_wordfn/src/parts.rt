@@ -12,7 +12,7 @@ use std::alloc::Global;
 
 /// WORDS: how many words a text has.
 pub fn words(text: &[u8]) -> u64
-    ensures count { result ≡ length_of (words text.now) }
+    ensures answer { result ≡ length_of (words text.now) }
 {
     let mut count = 0;
     let mut rest = text;
