@@ -4,7 +4,7 @@ use Rattle.std.specs.Int.{w64, to_be_bytes}
 use Rattle.hex.specs.Hex.{encode_upper}
 use Rattle.rx_tree.specs.Strings.{bytes_of}
 use Rattle.rx_convfn.specs.Answers.{within_limit}
-use Rattle.rx_convfn.specs.Digits.{of_digits, digits, number_of, values_of, within_digits, without_zeros, four_bits, whole_fours, from_fours}
+use Rattle.rx_convfn.specs.Digits.{of_digits, digits, number_of, values_of, within_digits, without_leading, four_bits, whole_fours, from_fours}
 
 -- C2X: two hexadecimal digits for each byte, in upper case
 abbrev pub c2x : List ℕ → Result (List ℕ) ℕ
@@ -32,11 +32,11 @@ x2d text count = of_digits false text (within_digits count (number_of 16 (values
 
 -- D2C: the eight bytes of a number from 1 on, the first of them the highest, without the zero bytes in front
 abbrev pub d2c : ℕ → Result (List ℕ) ℕ
-d2c n = if n == 0 then Err 40 else Ok (without_zeros 0 (to_be_bytes w64 n))
+d2c n = if n == 0 then Err 40 else Ok (without_leading 0 (to_be_bytes w64 n))
 
 -- D2X: the hexadecimal digits of the eight bytes of a number, without the zeros in front; `0` for 0
 abbrev pub d2x : ℕ → Result (List ℕ) ℕ
-d2x n = Ok (if n == 0 then 48 ∷ [] else without_zeros 48 (encode_upper (to_be_bytes w64 n)))
+d2x n = Ok (if n == 0 then 48 ∷ [] else without_leading 48 (encode_upper (to_be_bytes w64 n)))
 
 -- so many bytes from one on, each one more than that before, and 0 behind 255
 abbrev pub bytes_from : ℕ → ℕ → List ℕ

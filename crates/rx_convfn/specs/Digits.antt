@@ -24,10 +24,10 @@ values_of digits = map digit_value digits
 abbrev pub within_digits : ℕ → ℕ → Result ℕ ℕ
 within_digits count number = if nat_lt number (10 ^ count) then Ok number else Err 40
 
--- some bytes without those in front that are zeros, where a zero is this byte
-abbrev pub without_zeros : ℕ → List ℕ → List ℕ
-without_zeros zero [] = []
-without_zeros zero (byte ∷ bytes) = if byte == zero then without_zeros zero bytes else byte ∷ bytes
+-- some bytes without those in front that are this byte
+abbrev pub without_leading : ℕ → List ℕ → List ℕ
+without_leading byte [] = []
+without_leading byte (first ∷ bytes) = if first == byte then without_leading byte bytes else first ∷ bytes
 
 -- the four binary digits of a hexadecimal one
 abbrev pub four_bits : ℕ → List ℕ

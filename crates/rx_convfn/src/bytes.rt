@@ -2,18 +2,18 @@
 ghost use Rattle.std.specs.Prelude.{◌≡◌, IfOk};
 ghost use Rattle.rx_convfn.specs.Answers.{AnswersText};
 ghost use Rattle.rx_convfn.specs.Conversions.{bytes_from, d2c, d2x, xrange};
-ghost use Rattle.rx_convfn.specs.Digits.{without_zeros};
+ghost use Rattle.rx_convfn.specs.Digits.{without_leading};
 
 use crate::answer::{Bytes, OUT_OF_RANGE};
 use std::alloc::{AllocError, Global};
 
-// Some bytes without those in front that are zeros, where a zero is this byte.
-fn without_zeros(zero: u8, bytes: &[u8]) -> &[u8]
-    ensures { result.now ≡ without_zeros zero bytes.now }
+// Some bytes without those in front that are this byte.
+fn without_leading(byte: u8, bytes: &[u8]) -> &[u8]
+    ensures { result.now ≡ without_leading byte bytes.now }
 {
     let mut rest = bytes;
     while let [first, more @ ..] = rest {
-        if *first != zero {
+        if *first != byte {
             break;
         }
         rest = more;
@@ -32,7 +32,7 @@ pub fn d2c(alloc: Global, n: u64) -> Bytes
     if n == 0 {
         return Err(OUT_OF_RANGE);
     }
-    Ok(Vec::from_slice(alloc, without_zeros(0, &n.to_be_bytes()))?)
+    Ok(Vec::from_slice(alloc, without_leading(0, &n.to_be_bytes()))?)
 }
 
 /// D2X: a number as hexadecimal digits in upper case, without zeros in front; `0` for 0.
@@ -43,7 +43,7 @@ pub fn d2x(alloc: Global, n: u64) -> Bytes
         return Ok(Vec::from_slice(alloc, b"0")?);
     }
     let digits = hex::encode_upper(alloc, n.to_be_bytes())?;
-    Ok(Vec::from_slice(alloc, without_zeros(b'0', digits.as_bytes()))?)
+    Ok(Vec::from_slice(alloc, without_leading(b'0', digits.as_bytes()))?)
 }
 
 // So many bytes from one on, each one more than that before, and 0 behind 255.

@@ -1,9 +1,9 @@
 use Rattle.std.proofs.Common.{◌≡◌, length}
-use Rattle.rx_convfn.specs.Digits.{without_zeros}
-use Rattle.rx_convfn.proofs.bytes.without_zeros.Given as goal
+use Rattle.rx_convfn.specs.Digits.{without_leading}
+use Rattle.rx_convfn.proofs.bytes.without_leading.Given as goal
 
 abbrev pub invariant-loop-rest : goal.invariant-loop-rest
-invariant-loop-rest l = without_zeros l.zero l.rest ≡ without_zeros l.zero l.bytes
+invariant-loop-rest l = without_leading l.byte l.rest ≡ without_leading l.byte l.bytes
 
 abbrev pub decreases-loop-rest : goal.decreases-loop-rest
 decreases-loop-rest l = length l.rest
