@@ -1,18 +1,13 @@
 // Sources of nearly 4 MiB, each one expression, which is read in one go.
-use rx_exprs::{DEEPEST, ParseRefused, Stops, parse_expr};
-use rx_scan::{LONGEST_SOURCE, bracket_depth, scan};
+use crate::parsing::parse;
+use rx_exprs::{DEEPEST, ParseRefused};
 use std::alloc::{AllocError, Global};
 use std::process::Abort;
 use std::test::Fail;
 
 // Where the expression of a source ends, or the place of its refusal.
 fn end_of(alloc: Global, rt: &impl Abort, source: &[u8]) -> Result<u32, AllocError> {
-    assert!(rt; source.len() <= LONGEST_SOURCE);
-    let Ok(tokens) = scan(alloc, source) else {
-        panic!(rt; "no tokens");
-    };
-    assert!(rt; bracket_depth(tokens.as_slice()) <= DEEPEST);
-    match parse_expr(alloc, tokens.as_slice(), 0, Stops::Nothing) {
+    match parse(alloc, rt, source) {
         Ok((_, end)) => Ok(end),
         Err(ParseRefused::Bad { at, .. }) => Ok(at),
         Err(ParseRefused::OutOfMemory) => Err(AllocError),
