@@ -6,11 +6,7 @@ use std::alloc::Global;
 use std::process::Abort;
 
 /// The expression at the front of a source, and the place where it ends; or its refusal.
-pub fn parse(
-    alloc: Global,
-    rt: &impl Abort,
-    source: &[u8],
-) -> Result<(Expr, u32), ParseRefused> {
+pub fn parse(alloc: Global, rt: &impl Abort, source: &[u8]) -> Result<(Expr, u32), ParseRefused> {
     assert!(rt; source.len() <= LONGEST_SOURCE);
     let Ok(tokens) = scan(alloc, source) else {
         panic!(rt; "no tokens");

@@ -25,7 +25,11 @@ fn shares_are_equal(rt: HostRuntime) -> Result<(), Fail> {
     let alloc = rt.alloc();
     let source = b"a + b.c.1 * -'x' || f(,.y) = (d.)~m:s(1,,2)~~n[3]";
     let (expr, _) = parse(alloc, &rt, source)?;
-    let (other, _) = parse(alloc, &rt, b"a + b.c.1 * -'x' || f(,.y) = (d.)~m:s(1,,2)~n[3]")?;
+    let (other, _) = parse(
+        alloc,
+        &rt,
+        b"a + b.c.1 * -'x' || f(,.y) = (d.)~m:s(1,,2)~n[3]",
+    )?;
     assert!(rt; is_shared(alloc, &expr));
     assert!(rt; expr != other);
     Ok(())
