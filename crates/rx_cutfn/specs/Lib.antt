@@ -1,0 +1,7 @@
+pub mod Answers
+pub mod Cutting
+pub mod Places
+pub mod Searching
+pub mod Replacing
+pub mod Letters
+pub mod Stripping
