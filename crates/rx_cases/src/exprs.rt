@@ -2,8 +2,8 @@
 ghost use Rattle.std.specs.Prelude.{◌≤◌, ◌^◌, ◌<◌, length};
 ghost use Rattle.rx_scan.specs.Depth.{bracket_depth};
 
-use crate::escape::{escape, unescape};
 use crate::tokens::show_parts;
+use rx_escape::{escape, unescape};
 use rx_exprs::{DEEPEST, ParseRefused, Stops, parse_expr};
 use rx_scan::{LONGEST_SOURCE, ScanRefused, bracket_depth, scan};
 use rx_tree::{Expr, Name, Oper, SendPart, Token, Value};

@@ -9,15 +9,14 @@
 //! other line is a heading, and told as it stands.
 #![tactic(auto)]
 
-mod escape;
 mod exprs;
 mod running;
 mod tokens;
 
-use crate::escape::unescape;
 use crate::exprs::tell_case;
 use crate::running::{call, tell_call, tell_picks};
 use crate::tokens::tell_scan;
+use rx_escape::unescape;
 use std::alloc::AllocError;
 use std::io;
 use std::sync::Wait;

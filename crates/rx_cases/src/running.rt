@@ -1,5 +1,5 @@
 // Calls of the interpreter over a file of a shelf in memory.
-use crate::escape::escape;
+use rx_escape::escape;
 use rx_ports::{FreeGate, MemShelf, MemSink, SureSource};
 use rx_top::{Ended, rexx_call};
 use std::alloc::{AllocError, Global};

@@ -1,7 +1,7 @@
 // The tokens of a source.
 ghost use Rattle.std.specs.Prelude.{◌<◌, ◌^◌, length};
 
-use crate::escape::escape;
+use rx_escape::escape;
 use rx_scan::{LONGEST_SOURCE, ScanRefused, bracket_depth, scan};
 use rx_tree::{Part, Token, TokenKind};
 use std::alloc::{AllocError, Global};

@@ -1,5 +1,5 @@
 use Rattle.std.proofs.Common.{length}
-use Rattle.rx_cases.proofs.escape.unescape.Given as goal
+use Rattle.rx_escape.proofs.unescape.Given as goal
 
 abbrev pub decreases-loop-rest : goal.decreases-loop-rest
 decreases-loop-rest l = length l.rest

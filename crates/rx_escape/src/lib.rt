@@ -1,4 +1,9 @@
-// Bytes as a line of text.
+//! Bytes as a line of text, for programs whose input and output are tables of cases.
+//!
+//! `\n`, `\r`, `\t` and `\\` are one byte, and `\xFF` is the byte of that number. Other bytes from blank to `~` stand for
+//! themselves.
+#![tactic(auto)]
+
 use std::alloc::{AllocError, Global};
 
 // The byte that a letter behind a backslash stands for.
