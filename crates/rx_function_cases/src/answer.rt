@@ -19,6 +19,11 @@ pub enum Answer {
 const LONGEST_TOLD: usize = 200;
 
 impl Answer {
+    /// Whether no function has the name.
+    pub fn is_unknown(&self) -> bool {
+        matches!(self, Answer::Unknown)
+    }
+
     /// The answer as a line of text. Of a long text the number of bytes is told.
     pub fn told(&self, alloc: Global) -> Result<String, AllocError> {
         match self {

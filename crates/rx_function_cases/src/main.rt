@@ -8,7 +8,9 @@
 
 mod answer;
 mod argument;
+mod conversions;
 mod positions;
+mod words;
 
 use crate::answer::Answer;
 use crate::argument::Arguments;
@@ -17,7 +19,15 @@ use std::io;
 
 // What a call comes to: the first family of functions that knows the name tells.
 fn call(alloc: Global, name: &str, arguments: &Arguments) -> Result<Answer, AllocError> {
-    positions::call(alloc, name, arguments)
+    let on_positions = positions::call(alloc, name, arguments)?;
+    if !on_positions.is_unknown() {
+        return Ok(on_positions);
+    }
+    let on_words = words::call(alloc, name, arguments)?;
+    if !on_words.is_unknown() {
+        return Ok(on_words);
+    }
+    conversions::call(alloc, name, arguments)
 }
 
 // What a line of the input comes to.
