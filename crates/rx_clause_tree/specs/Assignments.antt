@@ -60,7 +60,7 @@ with_messages receiver (part ∷ parts) = e.Sends receiver (part ∷ parts)
 -- A term with messages that `=` stands behind: its receiver and the messages before the last, its last message, and what
 -- stands behind the `=`.
 pub data IsAssignedTerm : Expr → SendPart → Tokens → Tokens → Type 0 where
-  assigned : {receiver : Expr} {before : List SendPart} {last : SendPart} {tokens rest : Tokens} (u : Token)
+  assigned : {tokens rest : Tokens} (receiver : Expr) (before : List SendPart) (last : SendPart) (u : Token)
       → IsSpelt Nothing (e.Sends receiver (before ++ last ∷ [])) tokens (u ∷ rest) → is_assigned (out-SendPart last) ≡ true
       → is_equal u.kind ≡ true → IsAssignedTerm (with_messages receiver before) last tokens rest
 

@@ -1,5 +1,5 @@
 -- Which tokens bodies are written with: labels and clauses up to a directive or the end, each where it may stand.
-use Rattle.std.specs.Prelude.{◌≡◌, ◌≢◌, ℕ, Bool, true, false, List, [], ◌∷◌, codes}
+use Rattle.std.specs.Prelude.{◌≡◌, ◌≢◌, ℕ, Bool, true, false, List, [], ◌∷◌, Some, codes}
 use Rattle.rx_tree.specs.declared.name.Name.{Name}
 use Rattle.rx_tree.specs.declared.token.Token.{Token}
 use Rattle.rx_tree.specs.declared.token.TokenKind.{TokenKind}

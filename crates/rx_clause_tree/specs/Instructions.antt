@@ -43,7 +43,7 @@ abbrev pub label_of : Condition → List ℕ
 label_of y.Syntax = codes "SYNTAX"
 label_of y.NoValue = codes "NOVALUE"
 label_of y.NoMethod = codes "NOMETHOD"
-label_of (y.User name) = name
+label_of (y.User text) = text
 
 -- `[NAME label]`, and the end of the clause
 pub data IsTrapLabel : Condition → List ℕ → Tokens → Tokens → Type 0 where

@@ -11,6 +11,7 @@ use sqlite_items::Items;
 use std::alloc::Global;
 
 /// What a clause does that holds no other clause.
+#[derive(Drop)]
 pub enum Simple {
     /// `name:`
     Label(Text),
@@ -74,44 +75,6 @@ pub enum Simple {
     RaiseUser(Text, Option<Expr>, Option<Expr>),
     /// `TRACE A`, `R`, `N` and `O`
     Trace(TraceSetting),
-}
-
-impl Drop for Simple {
-    fn drop(self) {
-        match self {
-            Simple::Label(_) => {}
-            Simple::Assign(_, _) => {}
-            Simple::SendAssign(_, _, _) => {}
-            Simple::Message(_) => {}
-            Simple::Say(_) => {}
-            Simple::Nop => {}
-            Simple::Leave(_) => {}
-            Simple::Iterate(_) => {}
-            Simple::Call(_) => {}
-            Simple::CallOn(_) => {}
-            Simple::CallOff(_) => {}
-            Simple::Return(_) => {}
-            Simple::Exit(_) => {}
-            Simple::Signal(_) => {}
-            Simple::SignalOn(_) => {}
-            Simple::SignalOff(_) => {}
-            Simple::Procedure(_) => {}
-            Simple::Expose(_) => {}
-            Simple::UseArg(_, _) => {}
-            Simple::Parse(_) => {}
-            Simple::Push(_) => {}
-            Simple::Queue(_) => {}
-            Simple::Drop(_) => {}
-            Simple::Digits(_) => {}
-            Simple::GuardOn(_) => {}
-            Simple::GuardOff(_) => {}
-            Simple::Reply(_) => {}
-            Simple::Forward(_) => {}
-            Simple::RaiseSyntax(_, _) => {}
-            Simple::RaiseUser(_, _, _) => {}
-            Simple::Trace(_) => {}
-        }
-    }
 }
 
 // An equal assignment by a message, or want of memory.
