@@ -1,0 +1,13 @@
+pub mod Sure
+pub mod Words
+pub mod KeywordLemmas
+pub mod Opens
+pub mod PartsLaw
+pub mod StartsLaw
+pub mod PlainLaw
+pub mod LoopingLaw
+pub mod ForwardingLaw
+pub mod ParsingLaw
+pub mod SimpleLaw
+pub mod ClausesLaw
+pub mod BodiesLaw

@@ -1,0 +1,9 @@
+pub mod Parts
+pub mod Starts
+pub mod Plain
+pub mod Looping
+pub mod Forwarding
+pub mod Parsing
+pub mod Keywords
+pub mod Reader
+pub mod Laws
