@@ -1,4 +1,4 @@
-//! The parser of clauses and bodies: a body exactly where one fits the tokens.
+//! The reader of clauses and bodies as a definition, and its law: a body fits the tokens exactly where it reads it. There is no parser yet.
 #![tactic(auto)]
 
 mod keyword;
