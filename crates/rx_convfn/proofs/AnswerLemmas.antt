@@ -2,10 +2,10 @@
 use Rattle.std.proofs.Common.{◌≡◌, ◌<◌, ◌≤◌, ◌&&◌, Bool, true, if◌then◌else◌, ℕ, List, Vec, Result, Ok, Err, length, ap, ◌∙◌}
 use Rattle.std.specs.declared.alloc.Global.{Global}
 use Rattle.std.proofs.lemmas.Bool.{lt-leb, le-leb}
-use Rattle.rx_convfn.specs.declared.answer.Refused.TheVariants.{Raised}
+use Rattle.rx_answers.specs.declared.Refused.TheVariants.{Raised}
 use Rattle.rx_tree.specs.Strings.{is_trimmed, is_grouped}
 use Rattle.rx_convfn.specs.Digits.{of_digits}
-use Rattle.rx_convfn.specs.Answers.{within_limit, AnswersText}
+use Rattle.rx_answers.specs.Answers.{within_limit, AnswersText}
 
 pub raises : (value : Result (List ℕ) ℕ) (error : ℕ) → value ≡ Err error → AnswersText (Err (Raised error)) value
 raises value error e = record {

@@ -3,7 +3,7 @@ use Rattle.std.specs.Prelude.{ℕ, true, false, zero, suc, ◌+◌, ◌-◌, ◌
 use Rattle.std.specs.Int.{w64, to_be_bytes}
 use Rattle.hex.specs.Hex.{encode_upper}
 use Rattle.rx_tree.specs.Strings.{bytes_of}
-use Rattle.rx_convfn.specs.Answers.{within_limit}
+use Rattle.rx_answers.specs.Answers.{within_limit}
 use Rattle.rx_convfn.specs.Digits.{of_digits, digits, number_of, values_of, within_digits, without_leading, four_bits, whole_fours, from_fours}
 
 -- C2X: two hexadecimal digits for each byte, in upper case

@@ -1,4 +1,3 @@
-pub mod Answers
 pub mod Conversions
 pub mod Digits
 pub mod Kinds

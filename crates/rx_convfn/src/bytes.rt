@@ -1,10 +1,10 @@
 // The bytes of a number, and bytes in their order.
 ghost use Rattle.std.specs.Prelude.{◌≡◌, IfOk};
-ghost use Rattle.rx_convfn.specs.Answers.{AnswersText};
+ghost use Rattle.rx_answers.specs.Answers.{AnswersText};
 ghost use Rattle.rx_convfn.specs.Conversions.{bytes_from, d2c, d2x, xrange};
 ghost use Rattle.rx_convfn.specs.Digits.{without_leading};
 
-use crate::answer::{Bytes, OUT_OF_RANGE};
+use rx_answers::{Bytes, OUT_OF_RANGE};
 use std::alloc::{AllocError, Global};
 
 // Some bytes without those in front that are this byte.

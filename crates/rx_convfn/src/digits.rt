@@ -1,11 +1,11 @@
 // Texts as hexadecimal and binary digits, and back.
 ghost use Rattle.std.specs.Prelude.{◌≡◌, ◌+◌, ◌*◌, ◌<◌, ◌++◌, IfOk, OnOk, slice_index};
 ghost use Rattle.hex.specs.Hex.{upper_digits};
-ghost use Rattle.rx_convfn.specs.Answers.{AnswersText};
+ghost use Rattle.rx_answers.specs.Answers.{AnswersText};
 ghost use Rattle.rx_convfn.specs.Conversions.{b2x, c2x, x2b, x2c};
 ghost use Rattle.rx_convfn.specs.Digits.{bit, digits, four_bits, from_fours, whole_fours};
 
-use crate::answer::{Bytes, LONGEST, OUT_OF_RANGE, TOO_LONG};
+use rx_answers::{Bytes, LONGEST, OUT_OF_RANGE, Refused, TOO_LONG};
 use rx_digits::{are_digits, bytes_of, digit_value, digits_in};
 use rx_text::is_blank;
 use std::alloc::{AllocError, Global};
@@ -39,7 +39,10 @@ pub fn x2c(alloc: Global, text: &[u8]) -> Bytes
     if digits_in(text) > 2 * LONGEST {
         return Err(TOO_LONG);
     }
-    Ok(bytes_of(alloc, false, text)?)
+    match bytes_of(alloc, false, text) {
+        Ok(bytes) => Ok(bytes),
+        Err(_) => Err(Refused::OutOfMemory),
+    }
 }
 
 // Appends the four binary digits of a hexadecimal one.

@@ -2,10 +2,10 @@
 ghost use Rattle.std.specs.Prelude.{◌≡◌};
 ghost use Rattle.std.specs.Char.{is_ascii_alphabetic, is_ascii_alphanumeric, is_ascii_lowercase, is_ascii_uppercase};
 ghost use Rattle.std.specs.List.{list_all};
-ghost use Rattle.rx_convfn.specs.Answers.{AnswersText};
+ghost use Rattle.rx_answers.specs.Answers.{AnswersText};
 ghost use Rattle.rx_convfn.specs.Kinds.{datatype, is_number, is_of_kind};
 
-use crate::answer::{Bytes, OUT_OF_RANGE};
+use rx_answers::{Bytes, OUT_OF_RANGE};
 use rx_whole::{Numeral, read_number};
 use std::alloc::Global;
 

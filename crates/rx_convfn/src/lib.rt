@@ -6,14 +6,13 @@
 //! any of it is built. A call that gives a number takes no memory. Each call takes time in proportion to its text.
 #![tactic(auto)]
 
-mod answer;
 mod bytes;
 mod digits;
 mod kinds;
 mod numbers;
 
-pub use answer::{Bytes, INCORRECT_CALL, LONGEST, Number, RESOURCES_EXHAUSTED, Refused};
 pub use bytes::{d2c, d2x, xrange};
 pub use digits::{b2x, c2x, x2b, x2c};
 pub use kinds::datatype;
 pub use numbers::{c2d, x2d};
+pub use rx_answers::{Bytes, INCORRECT_CALL, LONGEST, Number, RESOURCES_EXHAUSTED, Refused};

@@ -1,10 +1,10 @@
 // The numbers of texts.
 ghost use Rattle.std.specs.Prelude.{◌≡◌, ◌+◌, ◌-◌, ◌*◌, ◌^◌, ◌≤◌, min};
-ghost use Rattle.rx_convfn.specs.Answers.{number_answer};
+ghost use Rattle.rx_answers.specs.Answers.{number_answer};
 ghost use Rattle.rx_convfn.specs.Conversions.{c2d, x2d};
 ghost use Rattle.rx_convfn.specs.Digits.{digits, number_of, values_of, within_digits};
 
-use crate::answer::{Number, OUT_OF_RANGE};
+use rx_answers::{Number, OUT_OF_RANGE};
 use rx_digits::{are_digits, digit_value};
 use rx_text::is_blank;
 

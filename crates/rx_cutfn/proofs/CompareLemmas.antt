@@ -4,7 +4,7 @@ use mathlib.Core.Bool.{beq}
 use Rattle.std.proofs.lemmas.Bool.{cond-false, eq-eqb, ne_eqb, false≢true}
 use Rattle.std.proofs.lemmas.Bool.Decides.{nat_tests}
 use Rattle.std.proofs.lemmas.List.{get_or-drop, length-drop}
-use Rattle.rx_cutfn.specs.Answers.{number_answer, at_place}
+use Rattle.rx_answers.specs.Answers.{number_answer, at_place}
 use Rattle.rx_cutfn.specs.Places.{first_place}
 use Rattle.rx_cutfn.specs.Searching.{compare, first_sought, is_in, is_sought, seeks_members, verify}
 use Rattle.rx_cutfn.proofs.PlaceLemmas.{first_place_is, first_place_none}

@@ -5,7 +5,7 @@ use Rattle.std.proofs.lemmas.List.{drop_all, drop_more, get_or-drop, get_or-set_
 use Rattle.std.proofs.lemmas.List.Edits.{map_over_more}
 use Rattle.std.proofs.lemmas.List.FromFn.{fill_by_all, get_or-range_with_len}
 use Rattle.std.specs.List.{range_with_len, position_or_len}
-use Rattle.rx_cutfn.specs.Answers.{within_limit}
+use Rattle.rx_answers.specs.Answers.{within_limit}
 use Rattle.rx_cutfn.specs.Letters.{IsTable, byte_at, translated, all_bytes, translate, upper}
 
 pub all_bytes_are : (bytes : List ℕ) → length bytes ≡ 256 → ((k : ℕ) → k < 256 → get_or bytes k 0 ≡ k) → bytes ≡ all_bytes

@@ -1,7 +1,7 @@
 -- The functions that cut, pad and join texts.
 use Rattle.std.specs.Prelude.{ℕ, ◌+◌, ◌-◌, ◌/◌, List, [], ◌++◌, length, take, drop, replicate, reverse, Option, None, Some, unwrap_or, Result}
 use Rattle.std.specs.List.{concat}
-use Rattle.rx_cutfn.specs.Answers.{within_limit, at_place}
+use Rattle.rx_answers.specs.Answers.{within_limit, at_place}
 
 -- a text made so many bytes long: the first of it, with pads behind it
 abbrev pub fitted : ℕ → ℕ → List ℕ → List ℕ

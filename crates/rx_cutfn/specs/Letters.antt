@@ -2,7 +2,7 @@
 use Rattle.std.specs.Prelude.{◌≡◌, ℕ, ◌<◌, ◌==◌, ◌&&◌, is_none, if◌then◌else◌, List, [], map, slice_index, slice_index_or, position, Option, None, Some, unwrap_or, Result}
 use Rattle.std.specs.List.{range_with_len}
 use Rattle.std.specs.Str.{str_to_ascii_uppercase, str_to_ascii_lowercase}
-use Rattle.rx_cutfn.specs.Answers.{within_limit}
+use Rattle.rx_answers.specs.Answers.{within_limit}
 
 -- UPPER
 unfoldable pub upper : List ℕ → Result (List ℕ) ℕ

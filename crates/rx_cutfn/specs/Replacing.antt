@@ -1,6 +1,6 @@
 -- The places of a needle from the left without overlap, counted and replaced.
 use Rattle.std.specs.Prelude.{ℕ, zero, suc, ◌-◌, ◌==◌, if◌then◌else◌, List, [], ◌∷◌, ◌++◌, length, Result, flat_map}
-use Rattle.rx_cutfn.specs.Answers.{within_limit}
+use Rattle.rx_answers.specs.Answers.{within_limit}
 use Rattle.rx_cutfn.specs.Places.{begins_with}
 
 -- a byte in front of the first piece

@@ -2,7 +2,7 @@
 use Rattle.std.specs.Prelude.{◌≡◌, ℕ, ◌-◌, ◌<◌, Bool, true, false, ◌==◌, nat_le, ◌&&◌, not, max, if◌then◌else◌, List, length, slice_index_or, slice_index, Option, None, Some, unwrap_or, Result, Ok, Err}
 use Rattle.std.specs.List.{list_any}
 use Rattle.std.specs.Char.{to_ascii_uppercase}
-use Rattle.rx_cutfn.specs.Answers.{at_place}
+use Rattle.rx_answers.specs.Answers.{at_place}
 use Rattle.rx_cutfn.specs.Places.{first_place, last_place, begins_with, stands_at}
 
 -- POS: the first place of the needle from a place on, which is 1 where it isn't given; 0 for an empty needle

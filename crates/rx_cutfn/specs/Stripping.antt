@@ -2,7 +2,7 @@
 use Rattle.std.specs.Prelude.{ℕ, ◌==◌, Bool, if◌then◌else◌, List, [], ◌∷◌, reverse, Option, None, Some, unwrap_or, Result, Err}
 use Rattle.std.specs.Char.{to_ascii_uppercase}
 use Rattle.rx_text.specs.Blanks.{is_blank}
-use Rattle.rx_cutfn.specs.Answers.{within_limit}
+use Rattle.rx_answers.specs.Answers.{within_limit}
 
 -- whether a byte is one to strip: the byte that is given, or else a blank
 abbrev pub is_outer : Option ℕ → ℕ → Bool

@@ -1,9 +1,10 @@
 // The functions that give a part of a text, padded where it is too short.
 ghost use Rattle.std.specs.Prelude.{◌≡◌, ◌≤◌, ◌++◌, length, take, drop, slice_index_or, OnOk};
-ghost use Rattle.rx_cutfn.specs.Answers.{AnswersText};
+ghost use Rattle.rx_answers.specs.Answers.{AnswersText};
 ghost use Rattle.rx_cutfn.specs.Cutting.{center, delstr, fitted, left, right, substr};
 
-use crate::answer::{Bytes, LONGEST, before, copy, room};
+use crate::answer::{before, copy, room};
+use rx_answers::{Bytes, LONGEST};
 use std::alloc::{AllocError, Global};
 
 /// LENGTH: the number of bytes.

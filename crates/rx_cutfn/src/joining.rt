@@ -1,10 +1,11 @@
 // The functions that put texts together, and REVERSE.
 ghost use Rattle.std.specs.Prelude.{◌≡◌, ◌≤◌, length};
-ghost use Rattle.rx_cutfn.specs.Answers.{AnswersText};
+ghost use Rattle.rx_answers.specs.Answers.{AnswersText};
 ghost use Rattle.rx_cutfn.specs.Cutting.{copies, insert, overlay, turned};
 
-use crate::answer::{Bytes, before, copy, room};
+use crate::answer::{before, copy, room};
 use crate::cutting::{push_fitted, rest};
+use rx_answers::Bytes;
 use std::alloc::Global;
 
 /// INSERT: `new`, made `length` bytes long, behind the first `at` bytes of the text, which is padded up to there. `at` is 0

@@ -1,10 +1,11 @@
 // The functions that give a text with other bytes.
 ghost use Rattle.std.specs.Prelude.{◌≡◌, ℕ, ◌<◌, slice_index, map, option_copied};
-ghost use Rattle.rx_cutfn.specs.Answers.{AnswersText, within_limit};
+ghost use Rattle.rx_answers.specs.Answers.{AnswersText, within_limit};
 ghost use Rattle.rx_cutfn.specs.Letters.{all_bytes, lower, translate, upper, IsTable};
 
-use crate::answer::{Bytes, copy};
+use crate::answer::copy;
 use crate::cutting::byte_behind;
+use rx_answers::Bytes;
 use std::alloc::Global;
 
 /// UPPER: the text with its ASCII letters in upper case.

@@ -13,10 +13,10 @@ mod replacing;
 mod searching;
 mod stripping;
 
-pub use answer::{Bytes, INCORRECT_CALL, LONGEST, Number, RESOURCES_EXHAUSTED, Refused};
 pub use cutting::{center, delstr, left, length, right, substr};
 pub use joining::{copies, insert, overlay, reverse};
 pub use letters::{lower, translate, upper};
 pub use replacing::{changestr, countstr};
+pub use rx_answers::{Bytes, INCORRECT_CALL, LONGEST, Number, RESOURCES_EXHAUSTED, Refused};
 pub use searching::{abbrev, compare, lastpos, pos, verify};
 pub use stripping::strip;

@@ -1,10 +1,11 @@
 // The functions on all places of a needle, from the left without overlap.
 ghost use Rattle.std.specs.Prelude.{◌≡◌, ◌≤◌, ◌*◌, ◌+◌, ◌<◌, ◌++◌, OnOk, length};
-ghost use Rattle.rx_cutfn.specs.Answers.{AnswersText};
+ghost use Rattle.rx_answers.specs.Answers.{AnswersText};
 ghost use Rattle.rx_cutfn.specs.Replacing.{changestr, countstr, joined, pieces};
 
-use crate::answer::{Bytes, copy, room};
+use crate::answer::{copy, room};
 use memchr::memmem::Finder;
+use rx_answers::Bytes;
 use std::alloc::{AllocError, Global};
 
 /// COUNTSTR: how many places the needle has in the text, from the left without overlap; 0 for an empty needle.

@@ -1,11 +1,12 @@
 // The functions that look for a place, and those that compare two texts.
 ghost use Rattle.std.specs.Prelude.{◌≡◌};
-ghost use Rattle.rx_cutfn.specs.Answers.{number_answer};
+ghost use Rattle.rx_answers.specs.Answers.{number_answer};
 ghost use Rattle.rx_cutfn.specs.Searching.{TellsMembers, compare, is_abbreviation, lastpos, pos, seeks_members, verify};
 
-use crate::answer::{INCORRECT_CALL, Number, Refused, before};
+use crate::answer::before;
 use crate::cutting::{byte_behind, rest};
 use memchr::memmem;
+use rx_answers::{Number, OUT_OF_RANGE};
 
 /// POS: the first place of the needle in the text, at or behind place `from`, which is 1 where it isn't given; 0 where there
 /// is none, or where the needle is empty.
@@ -79,7 +80,7 @@ pub fn verify(text: &[u8], reference: &[u8], option: Option<u8>, from: Option<u6
     ensures answer { result ≡ number_answer (verify text.now reference.now option from) }
 {
     let Some(wanted) = seeks_members(option) else {
-        return Err(Refused::Raised(INCORRECT_CALL));
+        return Err(OUT_OF_RANGE);
     };
     let passed = before(from.unwrap_or(1))?;
     let members = members(reference);

@@ -1,9 +1,10 @@
 // STRIP.
 ghost use Rattle.std.specs.Prelude.{◌≡◌};
-ghost use Rattle.rx_cutfn.specs.Answers.{AnswersText};
+ghost use Rattle.rx_answers.specs.Answers.{AnswersText};
 ghost use Rattle.rx_cutfn.specs.Stripping.{is_outer, strip, without_leading, without_trailing};
 
-use crate::answer::{Bytes, INCORRECT_CALL, Refused, copy};
+use crate::answer::copy;
+use rx_answers::{Bytes, OUT_OF_RANGE};
 use rx_text::is_blank;
 use std::alloc::Global;
 
@@ -59,7 +60,7 @@ pub fn strip(alloc: Global, text: &[u8], option: Option<u8>, byte: Option<u8>) -
         b'B' => strip_trailing(strip_leading(text, byte), byte),
         b'L' => strip_leading(text, byte),
         b'T' => strip_trailing(text, byte),
-        _ => return Err(Refused::Raised(INCORRECT_CALL)),
+        _ => return Err(OUT_OF_RANGE),
     };
     copy(alloc, stripped)
 }

@@ -1,8 +1,8 @@
 -- Answers of calls by what the function comes to.
 use Rattle.std.proofs.Common.{◌≡◌, ℕ, List, Vec, Result, Ok, Err, ap, ◌∙◌}
 use Rattle.std.specs.declared.alloc.Global.{Global}
-use Rattle.rx_wordfn.specs.declared.answer.Refused.TheVariants.{Raised}
-use Rattle.rx_wordfn.specs.Answers.{AnswersText}
+use Rattle.rx_answers.specs.declared.Refused.TheVariants.{Raised}
+use Rattle.rx_answers.specs.Answers.{AnswersText}
 
 pub raises : (value : Result (List ℕ) ℕ) (error : ℕ) → value ≡ Err error → AnswersText (Err (Raised error)) value
 raises value error e = record {

@@ -2,7 +2,7 @@
 use Rattle.std.specs.Prelude.{◌≡◌, ℕ, ◌+◌, ◌-◌, ◌==◌, if◌then◌else◌, List, [], ◌∷◌, ◌++◌, length, drop, replicate, flat_map, bytes_eq, slice_index_or, Option, None, Some, option_map, unwrap_or, Result, Ok}
 use Rattle.std.specs.List.{starts_with}
 use Rattle.rx_text.specs.Blanks.{stripped}
-use Rattle.rx_wordfn.specs.Answers.{within_limit, at_place}
+use Rattle.rx_answers.specs.Answers.{within_limit, at_place}
 use Rattle.rx_wordfn.specs.Words.{words, has_bytes, from_word, before}
 
 -- word `n` of a text, empty where there is none

@@ -1,4 +1,3 @@
-pub mod Answers
 pub mod Functions
 pub mod Lines
 pub mod Words

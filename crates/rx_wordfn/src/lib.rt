@@ -12,7 +12,7 @@ mod parts;
 mod rows;
 mod spacing;
 
-pub use answer::{Bytes, INCORRECT_CALL, LONGEST, Number, RESOURCES_EXHAUSTED, Refused};
 pub use parts::{delword, subword, word, wordindex, wordlength, words};
 pub use rows::wordpos;
+pub use rx_answers::{Bytes, INCORRECT_CALL, LONGEST, Number, RESOURCES_EXHAUSTED, Refused};
 pub use spacing::space;

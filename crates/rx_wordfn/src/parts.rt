@@ -1,12 +1,13 @@
 // The functions that count words, and those that find words by their numbers.
 ghost use Rattle.std.specs.Prelude.{◌≡◌, ◌<◌, ◌≤◌, [], slice_index_or, IfOk};
 ghost use Rattle.std.specs.Prelude.{length as length_of};
-ghost use Rattle.rx_wordfn.specs.Answers.{number_answer, AnswersText};
+ghost use Rattle.rx_answers.specs.Answers.{number_answer, AnswersText};
 ghost use Rattle.rx_wordfn.specs.Functions.{behind_words, delword, subword, word, wordindex, wordlength, WordsFrom};
 ghost use Rattle.rx_wordfn.specs.Words.{words};
 
-use crate::answer::{Bytes, NO_PLACE, Number, copied, joined};
+use crate::answer::{copied, joined};
 use crate::cursor::{from_word, next_word};
+use rx_answers::{Bytes, Number, OUT_OF_RANGE};
 use rx_text::strip;
 use std::alloc::Global;
 
@@ -42,7 +43,7 @@ pub fn word(alloc: Global, text: &[u8], n: u64) -> Bytes
     ensures answer { AnswersText result (word n text.now) }
 {
     if n == 0 {
-        return Err(NO_PLACE);
+        return Err(OUT_OF_RANGE);
     }
     copied(alloc, word_at(text, n - 1))
 }
@@ -58,7 +59,7 @@ pub fn wordindex(text: &[u8], n: u64) -> Number
     ensures there { IfOk result (λ place. 0 < place → WordsFrom n text.now place) }
 {
     if n == 0 {
-        return Err(NO_PLACE);
+        return Err(OUT_OF_RANGE);
     }
     let part = from_word(text, n - 1);
     if part.is_empty() {
@@ -76,7 +77,7 @@ pub fn wordlength(text: &[u8], n: u64) -> Number
     ensures answer { result ≡ number_answer (wordlength n text.now) }
 {
     if n == 0 {
-        return Err(NO_PLACE);
+        return Err(OUT_OF_RANGE);
     }
     Ok(word_at(text, n - 1).len() as u64)
 }
@@ -102,7 +103,7 @@ pub fn subword(alloc: Global, text: &[u8], n: u64, length: Option<u64>) -> Bytes
     ensures answer { AnswersText result (subword n length text.now) }
 {
     if n == 0 {
-        return Err(NO_PLACE);
+        return Err(OUT_OF_RANGE);
     }
     let part = from_word(text, n - 1);
     let behind = behind_words(part, length);
@@ -119,7 +120,7 @@ pub fn delword(alloc: Global, text: &[u8], n: u64, length: Option<u64>) -> Bytes
     ensures answer { AnswersText result (delword n length text.now) }
 {
     if n == 0 {
-        return Err(NO_PLACE);
+        return Err(OUT_OF_RANGE);
     }
     let part = from_word(text, n - 1);
     let behind = behind_words(part, length);

@@ -1,13 +1,13 @@
 // Where the words of a phrase stand in a row.
 ghost use Rattle.std.specs.Prelude.{◌≡◌, ◌<◌, ◌==◌, IfOk, count_by, length};
-ghost use Rattle.rx_wordfn.specs.Answers.{AnswersNumber};
+ghost use Rattle.rx_answers.specs.Answers.{AnswersNumber};
 ghost use Rattle.rx_wordfn.specs.Functions.{before_row, wordpos};
 ghost use Rattle.rx_wordfn.specs.Words.{words};
 ghost use Rattle.rx_wordfn.specs.Lines.{line};
 
-use crate::answer::{NO_PLACE, Number};
 use crate::cursor::{from_word, next_word};
 use memchr::memmem;
+use rx_answers::{Number, OUT_OF_RANGE};
 use std::alloc::{AllocError, Global};
 
 // The words of a text as a line that has one space in front of the first word and one behind each.
@@ -59,7 +59,7 @@ pub fn wordpos(alloc: Global, phrase: &[u8], text: &[u8], from: Option<u64>) -> 
 {
     let from = from.unwrap_or(1);
     if from == 0 {
-        return Err(NO_PLACE);
+        return Err(OUT_OF_RANGE);
     }
     if next_word(phrase).is_none() {
         return Ok(0);

@@ -1,12 +1,12 @@
 // The words of a text with a gap between them.
 ghost use Rattle.std.specs.Prelude.{◌≡◌, ◌++◌, OnOk, nat_le, replicate};
-ghost use Rattle.rx_wordfn.specs.Answers.{AnswersText};
+ghost use Rattle.rx_answers.specs.Answers.{AnswersText};
 ghost use Rattle.rx_wordfn.specs.Functions.{space};
 ghost use Rattle.rx_wordfn.specs.Lines.{spaced_length};
 ghost use Rattle.rx_wordfn.specs.Words.{words};
 
-use crate::answer::{Bytes, LONGEST, TOO_LONG};
 use crate::cursor::next_word;
+use rx_answers::{Bytes, LONGEST, TOO_LONG};
 use std::alloc::{AllocError, Global};
 
 // Whether the words of a text with gaps of `gap` bytes between them are no longer than a string may be.

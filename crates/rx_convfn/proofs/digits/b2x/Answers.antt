@@ -1,5 +1,5 @@
 use Rattle.std.proofs.Common.{◌≡◌, ◌<◌, ◌≤◌, true, ℕ, List, Ok, length, sym, ap, ◌∙◌, arith}
-use Rattle.rx_convfn.specs.Answers.{within_limit}
+use Rattle.rx_answers.specs.Answers.{within_limit}
 use Rattle.rx_convfn.specs.Conversions.{b2x}
 use Rattle.rx_convfn.specs.Digits.{digits, whole_fours, from_fours}
 use Rattle.rx_convfn.proofs.AnswerLemmas.{digits_yes, fits, gives, raises, too_long}

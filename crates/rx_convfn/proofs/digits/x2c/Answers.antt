@@ -1,6 +1,6 @@
 use Rattle.std.proofs.Common.{◌<◌, ◌≤◌, false, ℕ, List, Ok, length, sym, ap, ◌∙◌, arith}
 use Rattle.rx_tree.specs.Strings.{bytes_of}
-use Rattle.rx_convfn.specs.Answers.{within_limit}
+use Rattle.rx_answers.specs.Answers.{within_limit}
 use Rattle.rx_convfn.specs.Conversions.{x2c}
 use Rattle.rx_convfn.proofs.AnswerLemmas.{digits_yes, fits, gives, raises, too_long}
 use Rattle.rx_convfn.proofs.DigitLemmas.{length-bytes}
@@ -13,13 +13,13 @@ returns-then-digits_in c =
     let yes = digits_yes false text (within_limit (bytes_of false 0 text)) (sym c.are_digits.ensures ∙ c.if-not-are_digits.false) in
     record { answer = raises (x2c text) 5 (yes ∙ too_long (bytes_of false 0 text) long) }
 
-pub returns : goal.returns
-returns c =
+pub returns-in-Ok : goal.returns-in-Ok
+returns-in-Ok c =
     let text = c.args.text.now in
     let short : length (bytes_of false 0 text) ≤ 16777216 = omega (arith, c.digits_in.ensures, length-bytes 0 text) in
     let yes = digits_yes false text (within_limit (bytes_of false 0 text)) (sym c.are_digits.ensures ∙ c.if-not-are_digits.false) in
     record {
       answer =
-          gives (x2c text) c.in_ok-bytes_of.field-0
-          (yes ∙ fits (bytes_of false 0 text) short ∙ ap (λ (t : List ℕ). Ok t) (sym c.in_ok-bytes_of.ensures.value));
+          gives (x2c text) c.in-Ok.bytes
+          (yes ∙ fits (bytes_of false 0 text) short ∙ ap (λ (t : List ℕ). Ok t) (sym c.in-Ok.ensures.value));
     }

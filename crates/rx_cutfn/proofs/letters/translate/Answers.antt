@@ -1,6 +1,6 @@
 use Rattle.std.proofs.Common.{◌≡◌, ◌&&◌, false, is_none, option_copied, unwrap_or, arith, subst, sym, ap, ◌∙◌}
 use Rattle.std.specs.Prelude.{[]}
-use Rattle.rx_cutfn.specs.Answers.{AnswersText}
+use Rattle.rx_answers.specs.Answers.{AnswersText}
 use Rattle.rx_cutfn.specs.Letters.{all_bytes}
 use Rattle.rx_cutfn.proofs.LetterLemmas.{text_or, is_none_copied, translated_by, translated_same}
 use Rattle.rx_cutfn.proofs.letters.translate.Goals as goal

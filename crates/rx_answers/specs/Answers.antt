@@ -1,8 +1,8 @@
 -- What a function comes to, and what a call of it answers.
 use Rattle.std.specs.Prelude.{◌≡◌, ℕ, ◌==◌, nat_le, if◌then◌else◌, Vec, List, length, Result, Ok, Err, IfOk}
 use Rattle.std.specs.declared.alloc.Global.{Global}
-use Rattle.rx_cutfn.specs.declared.answer.Refused.{Refused}
-use Rattle.rx_cutfn.specs.declared.answer.Refused.TheVariants.{Raised}
+use Rattle.rx_answers.specs.declared.Refused.{Refused}
+use Rattle.rx_answers.specs.declared.Refused.TheVariants.{Raised}
 
 -- ---- what a function comes to: its value, or the number of the error that it raises
 
@@ -14,7 +14,7 @@ longest = 16777216
 abbrev pub within_limit : List ℕ → Result (List ℕ) ℕ
 within_limit text = if nat_le (length text) longest then Ok text else Err 5
 
--- what comes of a place among the arguments: places begin at 1, so that 0 raises 40
+-- what comes of the number of a place or of a word among the arguments: they begin at 1, so that 0 raises 40
 abbrev pub at_place : {A : Type 0} → ℕ → Result A ℕ → Result A ℕ
 at_place place value = if place == 0 then Err 40 else value
 
@@ -25,7 +25,12 @@ pub record AnswersText (result : Result (Vec ℕ Global) Refused) (value : Resul
   pub text : IfOk result (λ bytes. value ≡ Ok bytes.items)
   pub raised : (number : ℕ) → result ≡ Err (Raised number) → value ≡ Err number
 
--- the same of a number, which takes no memory
+-- the same of a number
+pub record AnswersNumber (result : Result ℕ Refused) (value : Result ℕ ℕ) : Type 0 where
+  pub number : IfOk result (λ number. value ≡ Ok number)
+  pub raised : (number : ℕ) → result ≡ Err (Raised number) → value ≡ Err number
+
+-- a number that takes no memory
 abbrev pub number_answer : Result ℕ ℕ → Result ℕ Refused
 number_answer (Ok number) = Ok number
 number_answer (Err number) = Err (Raised number)
