@@ -1,5 +1,7 @@
 // The arguments of a call.
 use rx_escape::unescape;
+use rx_tree::{Text, Value};
+use sqlite_items::Items;
 use std::alloc::{AllocError, Global};
 
 #[derive(Drop)]
@@ -7,6 +9,35 @@ enum Argument {
     Omitted,
     Number(u64),
     Text(Vec<u8>),
+}
+
+impl Argument {
+    // It as a text, and a number as its digits; none where it is left out.
+    fn text(&self, alloc: Global) -> Result<Option<Text>, AllocError> {
+        match self {
+            Argument::Omitted => Ok(None),
+            Argument::Number(number) => {
+                let digits = format!(in alloc; "{number}")?;
+                Ok(Some(text_of(alloc, digits.as_bytes())?))
+            }
+            Argument::Text(text) => Ok(Some(text_of(alloc, text.as_slice())?)),
+        }
+    }
+
+    // It as a value: a number as the object of that number; none where it is left out.
+    fn value(&self, alloc: Global) -> Result<Option<Value>, AllocError> {
+        match self {
+            Argument::Number(object) => Ok(Some(Value::Ref(u32::try_from(*object).unwrap_or(
+                u32::MAX,
+            )))),
+            other => Ok(other.text(alloc)?.map(Value::Str)),
+        }
+    }
+}
+
+/// A text with the first of these bytes, as many as a text may have.
+pub fn text_of(alloc: Global, bytes: &[u8]) -> Result<Text, AllocError> {
+    Text::from_slice(alloc, &bytes[..bytes.len().min(Text::LONGEST)]).map_err(|_| AllocError)
 }
 
 /// The arguments of a call, by their places from 0 on.
@@ -109,5 +140,39 @@ impl Arguments {
     /// The number at a place, or 0 where none stands there.
     pub fn count(&self, place: usize) -> u64 {
         self.number(place).unwrap_or(0)
+    }
+
+    /// Whether there are none.
+    pub fn is_empty(&self) -> bool {
+        self.arguments.is_empty()
+    }
+
+    /// The arguments as texts; one that is left out has none.
+    pub fn texts(&self, alloc: Global) -> Result<Vec<Option<Text>>, AllocError> {
+        let mut texts = Vec::new(alloc);
+        for argument in &self.arguments {
+            texts.push(argument.text(alloc)?)?;
+        }
+        Ok(texts)
+    }
+
+    /// The texts that are given.
+    pub fn given_texts(&self, alloc: Global) -> Result<Items<Text>, AllocError> {
+        let mut texts = Items::new(alloc);
+        for argument in &self.arguments {
+            if let Some(text) = argument.text(alloc)? {
+                texts.push(text)?;
+            }
+        }
+        Ok(texts)
+    }
+
+    /// The arguments as values, a number as the object of that number; one that is left out has none.
+    pub fn values(&self, alloc: Global) -> Result<Items<Option<Value>>, AllocError> {
+        let mut values = Items::new(alloc);
+        for argument in &self.arguments {
+            values.push(argument.value(alloc)?)?;
+        }
+        Ok(values)
     }
 }

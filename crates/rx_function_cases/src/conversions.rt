@@ -1,10 +1,9 @@
 // The conversions.
 ghost use Rattle.std.specs.Prelude.{◌≤◌};
 
-use crate::answer::Answer;
+use crate::answer::{Answer, number_answer, text_answer};
 use crate::argument::Arguments;
 use rx_convfn as convfn;
-use rx_convfn::{Bytes, Number, Refused};
 use std::alloc::{AllocError, Global};
 
 #[derive(Clone, Copy)]
@@ -33,22 +32,6 @@ const FUNCTIONS: [(&str, Function); 10] = [
     ("x2d", Function::X2d),
     ("xrange", Function::Xrange),
 ];
-
-fn text_answer(answer: Bytes) -> Result<Answer, AllocError> {
-    match answer {
-        Ok(text) => Ok(Answer::Text(text)),
-        Err(Refused::Raised(number)) => Ok(Answer::Raised(number)),
-        Err(Refused::OutOfMemory) => Err(AllocError),
-    }
-}
-
-fn number_answer(answer: Number) -> Result<Answer, AllocError> {
-    match answer {
-        Ok(number) => Ok(Answer::Number(number)),
-        Err(Refused::Raised(number)) => Ok(Answer::Raised(number)),
-        Err(Refused::OutOfMemory) => Err(AllocError),
-    }
-}
 
 // The setting of DIGITS that stands second, from 1 to 18.
 fn digits(given: &Arguments) -> u8

@@ -1,8 +1,7 @@
 // The functions on words.
-use crate::answer::Answer;
+use crate::answer::{Answer, number_answer, text_answer};
 use crate::argument::Arguments;
 use rx_wordfn as wordfn;
-use rx_wordfn::{Bytes, Number, Refused};
 use std::alloc::{AllocError, Global};
 
 #[derive(Clone, Copy)]
@@ -27,22 +26,6 @@ const FUNCTIONS: [(&str, Function); 8] = [
     ("wordpos", Function::Wordpos),
     ("words", Function::Words),
 ];
-
-fn text_answer(answer: Bytes) -> Result<Answer, AllocError> {
-    match answer {
-        Ok(text) => Ok(Answer::Text(text)),
-        Err(Refused::Raised(number)) => Ok(Answer::Raised(number)),
-        Err(Refused::OutOfMemory) => Err(AllocError),
-    }
-}
-
-fn number_answer(answer: Number) -> Result<Answer, AllocError> {
-    match answer {
-        Ok(number) => Ok(Answer::Number(number)),
-        Err(Refused::Raised(number)) => Ok(Answer::Raised(number)),
-        Err(Refused::OutOfMemory) => Err(AllocError),
-    }
-}
 
 // What a call of a function comes to.
 fn called(alloc: Global, function: Function, given: &Arguments) -> Result<Answer, AllocError> {

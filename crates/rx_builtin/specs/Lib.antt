@@ -1,0 +1,11 @@
+pub mod Arguments
+pub mod Rows
+pub mod Cutting
+pub mod Searching
+pub mod Changing
+pub mod Words
+pub mod Conversions
+pub mod Numbers
+pub mod Frames
+pub mod Functions
+pub mod Answers
