@@ -25,6 +25,7 @@ impl Drop for Pool {
 /// The pools of objects' variables, in the order in which they were made, and how often each cell was changed. Contracts see
 /// the lists of both.
 pub struct Pools {
+    alloc: Global,
     // By the object, and by the class and the side of the scope.
     pools: IndexMap<(u32, u32, bool), Pool>,
     // By the numbers of the cells.
@@ -34,6 +35,7 @@ pub struct Pools {
 impl Drop for Pools {
     fn drop(self) {
         let Pools {
+            alloc: _,
             pools: _,
             counts: _,
         } = self;
@@ -72,6 +74,7 @@ impl Pools {
         ensures { result ≡ no_pools }
     {
         Pools {
+            alloc,
             pools: IndexMap::new(alloc),
             counts: Vec::new(alloc),
         }
@@ -95,7 +98,7 @@ impl Pools {
 
     /// The number of the pool of an object and a scope, or want of memory. It is made where there is none yet. There is want
     /// of memory too where there are 4,294,967,294 pools.
-    pub fn pool_of(&mut self, alloc: Global, object: u32, scope: Scope) -> Result<u32, OutOfMemory>
+    pub fn pool_of(&mut self, object: u32, scope: Scope) -> Result<u32, OutOfMemory>
         ensures number { IfOk result (λ number. Some number ≡ pool_number self.new object scope) }
         ensures ok { OnOk result (self.new ≡ with_pool self.old object scope) }
         ensures err { OnErr result (self.new ≡ self.old) }
@@ -108,8 +111,8 @@ impl Pools {
             return Err(OutOfMemory);
         }
         let pool = Pool {
-            rows: Rows::new(alloc),
-            cells: Table::new(alloc),
+            rows: Rows::new(self.alloc),
+            cells: Table::new(self.alloc),
         };
         self.pools
             .insert((object, scope.class, scope.class_side), pool)?;
@@ -135,25 +138,19 @@ impl Pools {
     }
 
     // Gives the cell of a name in a pool this number.
-    fn insert_cell(
-        &mut self,
-        alloc: Global,
-        number: u32,
-        name: &[u8],
-        cell: u64,
-    ) -> Result<(), OutOfMemory>
+    fn insert_cell(&mut self, number: u32, name: &[u8], cell: u64) -> Result<(), OutOfMemory>
         ensures ok { OnOk result (self.new ≡ with_numbered_cell self.old number name.now cell) }
         ensures err { OnErr result (self.new ≡ self.old) }
     {
         let Some(pool) = self.pools.get_index_mut(number as usize) else {
             return Ok(());
         };
-        pool.cells.insert(alloc, name, cell)
+        pool.cells.insert(name, cell)
     }
 
     /// The number of the cell of a name in a pool, over all pools, or want of memory. It gets the next number where it has
     /// none yet. The name is that of a simple variable or a stem.
-    pub fn cell(&mut self, alloc: Global, number: u32, name: &Text) -> Result<u64, OutOfMemory>
+    pub fn cell(&mut self, number: u32, name: &Text) -> Result<u64, OutOfMemory>
         requires { number < length self.old.pools }
         ensures cell { IfOk result (λ cell. Some cell ≡ cell_in self.new number name.now) }
         ensures ok { OnOk result (self.new ≡ with_cell self.old number name.now) }
@@ -164,7 +161,7 @@ impl Pools {
         }
         let cell = self.counts.len() as u64;
         self.counts.push(0)?;
-        match self.insert_cell(alloc, number, name.bytes(), cell) {
+        match self.insert_cell(number, name.bytes(), cell) {
             Ok(()) => Ok(cell),
             Err(error) => {
                 let _ = self.counts.pop();
@@ -185,7 +182,6 @@ impl Pools {
     // Gives a name of a pool a value or none.
     fn change_rows(
         &mut self,
-        alloc: Global,
         number: u32,
         name: &Derived,
         value: Option<Value>,
@@ -196,7 +192,7 @@ impl Pools {
         let Some(pool) = self.pools.get_index_mut(number as usize) else {
             return Ok(());
         };
-        pool.rows.change(alloc, name, value)
+        pool.rows.change(name, value)
     }
 
     // Counts a change of a cell.
@@ -212,7 +208,6 @@ impl Pools {
     // Gives a name of a pool a value or none, and counts the change of its cell, whose number is told.
     fn change(
         &mut self,
-        alloc: Global,
         number: u32,
         name: &Derived,
         value: Option<Value>,
@@ -223,42 +218,31 @@ impl Pools {
         ensures err { OnErr result (self.new ≡ self.old) }
     {
         let cell = self.cell_in(number, watched_name(name)).unwrap();
-        self.change_rows(alloc, number, name, value)?;
+        self.change_rows(number, name, value)?;
         self.touch(cell);
         Ok(cell)
     }
 
     /// Gives a name of a pool a value, and counts the change of its cell, whose number is told; or wants memory. With a stem
     /// all its compounds have this value. The cell was given out, and was changed less than 2 ^ 63 times.
-    pub fn set(
-        &mut self,
-        alloc: Global,
-        number: u32,
-        name: &Derived,
-        value: Value,
-    ) -> Result<u64, OutOfMemory>
+    pub fn set(&mut self, number: u32, name: &Derived, value: Value) -> Result<u64, OutOfMemory>
         requires given { IsGiven self.old number (watched_name name.now) }
         ensures cell { IfOk result (λ cell. Some cell ≡ cell_in self.old number (watched_name name.now)) }
         ensures ok { OnOk result (self.new ≡ with_value self.old number name.now (Some value)) }
         ensures err { OnErr result (self.new ≡ self.old) }
     {
-        self.change(alloc, number, name, Some(value))
+        self.change(number, name, Some(value))
     }
 
     /// Takes the value of a name of a pool away, and counts the change of its cell, whose number is told; or wants memory.
     /// With a stem all its compounds lose theirs. The cell was given out, and was changed less than 2 ^ 63 times.
-    pub fn drop_name(
-        &mut self,
-        alloc: Global,
-        number: u32,
-        name: &Derived,
-    ) -> Result<u64, OutOfMemory>
+    pub fn drop_name(&mut self, number: u32, name: &Derived) -> Result<u64, OutOfMemory>
         requires given { IsGiven self.old number (watched_name name.now) }
         ensures cell { IfOk result (λ cell. Some cell ≡ cell_in self.old number (watched_name name.now)) }
         ensures ok { OnOk result (self.new ≡ with_value self.old number name.now None) }
         ensures err { OnErr result (self.new ≡ self.old) }
     {
-        self.change(alloc, number, name, None)
+        self.change(number, name, None)
     }
 
     /// How often a cell was changed.

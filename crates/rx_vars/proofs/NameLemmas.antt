@@ -51,3 +51,29 @@ pub stem_inserted : {T E A : Type 0} (result : Result T E) (new self names : Nam
     → self ≡ names → row ≡ other → OnOk result (new ≡ with_stem self stem row) → OnOk result (new ≡ with_stem names stem other)
 stem_inserted (Ok x) new self names stem row other is same added = added ∙ ap (λ ns. with_stem ns stem row) is ∙ ap (λ r. with_stem names stem r) same
 stem_inserted (Err e) new self names stem row other is same added = tt
+
+-- a stem that is found, whose row a call changes
+pub found_changed : {T E A : Type 0} (result : Result T E) (simple : List (List ℕ × A)) (entries written : List (Vec ℕ Global × StemRow A)) (names : Names A) (stem : List ℕ) (row new : StemRow A)
+    → (change : StemRow A → StemRow A) → names_of simple entries ≡ names → Some row ≡ lookup (is_stem stem) entries → written ≡ set_value (is_stem stem) entries new
+    → OnOk result (new ≡ change row) → OnOk result (names_of simple written ≡ with_stem names stem (change (stem_in names stem)))
+found_changed (Ok x) simple entries written names stem row new change is found set changed =
+    with_stem-written simple entries written names stem new row is found set
+    ∙ ap (λ r. with_stem names stem r) (changed ∙ ap change (stem_in-found simple entries names stem row is found))
+found_changed (Err e) simple entries written names stem row new change is found set changed = tt
+
+-- and one that it leaves as it was
+pub found_same : {T E A : Type 0} (result : Result T E) (simple : List (List ℕ × A)) (entries written : List (Vec ℕ Global × StemRow A)) (names : Names A) (stem : List ℕ) (row new : StemRow A)
+    → names_of simple entries ≡ names → Some row ≡ lookup (is_stem stem) entries → written ≡ set_value (is_stem stem) entries new
+    → OnErr result (new ≡ row) → OnErr result (names_of simple written ≡ names)
+found_same (Ok x) simple entries written names stem row new is found set same = tt
+found_same (Err e) simple entries written names stem row new is found set same =
+    with_stem-written simple entries written names stem new row is found set
+    ∙ ap (λ r. with_stem names stem r) same ∙ with_stem-same simple entries names stem row is found
+
+-- a stem that isn't found, whose new row a call changes
+pub absent_changed : {T E A : Type 0} (result : Result T E) (new : Names A) (simple : List (List ℕ × A)) (entries kept : List (Vec ℕ Global × StemRow A)) (names : Names A) (stem : List ℕ) (row fresh : StemRow A)
+    → (change : StemRow A → StemRow A) → names_of simple entries ≡ names → None ≡ lookup (is_stem stem) entries → kept ≡ entries → fresh ≡ no_stem → row ≡ change fresh
+    → OnOk result (new ≡ with_stem (names_of simple kept) stem row) → OnOk result (new ≡ with_stem names stem (change (stem_in names stem)))
+absent_changed result new simple entries kept names stem row fresh change is absent same empty changed added =
+    stem_inserted result new (names_of simple kept) names stem row (change (stem_in names stem)) (ap (names_of simple) same ∙ is)
+    (changed ∙ ap change (empty ∙ stem_in-absent simple entries names stem is absent)) added

@@ -50,10 +50,11 @@ impl<V: Drop> Discarded<V> {
     pub fn free_one(&mut self)
         ensures { self.new ≤ self.old - 1 }
     {
-        if let Some(mut table) = self.tables.pop() {
-            if table.pop() {
-                let _ = self.tables.push(table);
-            }
+        let Some(mut table) = self.tables.pop() else {
+            return;
+        };
+        if table.pop() {
+            self.add(table);
         }
     }
 }

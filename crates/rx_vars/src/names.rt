@@ -45,19 +45,19 @@ impl<V: Drop> StemRow<V> {
     }
 
     // Puts something under a compound itself, or nothing.
-    fn change(&mut self, alloc: Global, tail: &[u8], value: Option<V>) -> Result<(), OutOfMemory>
+    fn change(&mut self, tail: &[u8], value: Option<V>) -> Result<(), OutOfMemory>
         ensures ok { OnOk result (self.new ≡ with_tail self.old tail.now value) }
         ensures err { OnErr result (self.new ≡ self.old) }
     {
-        self.tails.change(alloc, tail, value)
+        self.tails.change(tail, value)
     }
 
     // Puts something under a compound itself, unless something stands there.
-    fn add(&mut self, alloc: Global, tail: &[u8], value: V) -> Result<(), OutOfMemory>
+    fn add(&mut self, tail: &[u8], value: V) -> Result<(), OutOfMemory>
         ensures ok { OnOk result (self.new ≡ with_new_tail self.old tail.now value) }
         ensures err { OnErr result (self.new ≡ self.old) }
     {
-        self.tails.add(alloc, tail, value)
+        self.tails.add(tail, value)
     }
 
     // Puts something under the stem itself, unless something stands there.
@@ -73,6 +73,7 @@ impl<V: Drop> StemRow<V> {
 /// What stands under the names of variables. Contracts see lists: of simple names, and of stems, each with the tails of its
 /// compounds. A look-up takes a time that doesn't grow with the number of names.
 pub struct Names<V> {
+    alloc: Global,
     simple: Table<V>,
     stems: IndexMap<Vec<u8>, StemRow<V>>,
 }
@@ -80,6 +81,7 @@ pub struct Names<V> {
 impl<V: Drop> Drop for Names<V> {
     fn drop(self) {
         let Names {
+            alloc: _,
             simple: _,
             stems: _,
         } = self;
@@ -102,6 +104,7 @@ impl<V: Drop> Names<V> {
         ensures { result ≡ no_names }
     {
         Names {
+            alloc,
             simple: Table::new(alloc),
             stems: IndexMap::new(alloc),
         }
@@ -143,88 +146,67 @@ impl<V: Drop> Names<V> {
     }
 
     // Appends the row of a stem that has none.
-    fn insert_stem(
-        &mut self,
-        alloc: Global,
-        stem: &[u8],
-        row: StemRow<V>,
-    ) -> Result<(), OutOfMemory>
+    fn insert_stem(&mut self, stem: &[u8], row: StemRow<V>) -> Result<(), OutOfMemory>
         ensures ok { OnOk result (self.new ≡ with_stem self.old stem.now row) }
         ensures err { OnErr result (self.new ≡ self.old) }
     {
-        let key = Vec::from_slice(alloc, stem)?;
+        let key = Vec::from_slice(self.alloc, stem)?;
         self.stems.insert(key, row)?;
         Ok(())
     }
 
     // Puts something under a stem or nothing, and under none of its compounds themselves. The tails that it had come out.
-    fn change_stem(
-        &mut self,
-        alloc: Global,
-        stem: &[u8],
-        own: Option<V>,
-    ) -> Result<Table<V>, OutOfMemory>
+    fn change_stem(&mut self, stem: &[u8], own: Option<V>) -> Result<Table<V>, OutOfMemory>
         ensures ok { OnOk result (self.new ≡ with_stem self.old stem.now (record { own = own; tails = [] })) }
         ensures err { OnErr result (self.new ≡ self.old) }
     {
-        let tails = Table::new(alloc);
+        let tails = Table::new(self.alloc);
         match self.stems.get_mut(stem) {
             Some(row) => {
                 row.own = own;
                 Ok(mem::replace(&mut row.tails, tails))
             }
             None => {
-                self.insert_stem(alloc, stem, StemRow { own, tails })?;
-                Ok(Table::new(alloc))
+                self.insert_stem(stem, StemRow { own, tails })?;
+                Ok(Table::new(self.alloc))
             }
         }
     }
 
     // Puts something under a compound itself, or nothing.
-    fn change_tail(
-        &mut self,
-        alloc: Global,
-        stem: &[u8],
-        tail: &[u8],
-        value: Option<V>,
-    ) -> Result<(), OutOfMemory>
+    fn change_tail(&mut self, stem: &[u8], tail: &[u8], value: Option<V>) -> Result<(), OutOfMemory>
         ensures ok { OnOk result
             (self.new ≡ with_stem self.old stem.now (with_tail (stem_in self.old stem.now) tail.now value)) }
         ensures err { OnErr result (self.new ≡ self.old) }
     {
         match self.stems.get_mut(stem) {
-            Some(row) => row.change(alloc, tail, value),
+            Some(row) => row.change(tail, value),
             None => {
-                let mut row = StemRow::new(alloc);
-                row.change(alloc, tail, value)?;
-                self.insert_stem(alloc, stem, row)
+                let mut row = StemRow::new(self.alloc);
+                row.change(tail, value)?;
+                self.insert_stem(stem, row)
             }
         }
     }
 
     /// Puts something under a name or nothing, or wants memory. A stem's compounds have what the stem has then: what stood
     /// under them themselves comes out as a table, and nothing of it is touched.
-    pub fn change(
-        &mut self,
-        alloc: Global,
-        name: &Derived,
-        value: Option<V>,
-    ) -> Result<Table<V>, OutOfMemory>
+    pub fn change(&mut self, name: &Derived, value: Option<V>) -> Result<Table<V>, OutOfMemory>
         ensures ok { OnOk result (self.new ≡ changed self.old name.now value) }
         ensures err { OnErr result (self.new ≡ self.old) }
     {
         match name {
-            Derived::Simple(name) => self.simple.change(alloc, name.bytes(), value)?,
-            Derived::Stem(stem) => return self.change_stem(alloc, stem.bytes(), value),
+            Derived::Simple(name) => self.simple.change(name.bytes(), value)?,
+            Derived::Stem(stem) => return self.change_stem(stem.bytes(), value),
             Derived::Compound(stem, tail) => {
-                self.change_tail(alloc, stem.bytes(), tail.bytes(), value)?
+                self.change_tail(stem.bytes(), tail.bytes(), value)?
             }
         }
-        Ok(Table::new(alloc))
+        Ok(Table::new(self.alloc))
     }
 
     // Puts something under a stem itself, unless something stands there.
-    fn add_stem(&mut self, alloc: Global, stem: &[u8], value: V) -> Result<(), OutOfMemory>
+    fn add_stem(&mut self, stem: &[u8], value: V) -> Result<(), OutOfMemory>
         ensures ok { OnOk result
             (self.new ≡ with_stem self.old stem.now (with_own (stem_in self.old stem.now) value)) }
         ensures err { OnErr result (self.new ≡ self.old) }
@@ -235,47 +217,39 @@ impl<V: Drop> Names<V> {
                 Ok(())
             }
             None => {
-                let mut row = StemRow::new(alloc);
+                let mut row = StemRow::new(self.alloc);
                 row.add_own(value);
-                self.insert_stem(alloc, stem, row)
+                self.insert_stem(stem, row)
             }
         }
     }
 
     // Puts something under a compound itself, unless something stands there.
-    fn add_tail(
-        &mut self,
-        alloc: Global,
-        stem: &[u8],
-        tail: &[u8],
-        value: V,
-    ) -> Result<(), OutOfMemory>
+    fn add_tail(&mut self, stem: &[u8], tail: &[u8], value: V) -> Result<(), OutOfMemory>
         ensures ok { OnOk result
             (self.new ≡ with_stem self.old stem.now (with_new_tail (stem_in self.old stem.now) tail.now value)) }
         ensures err { OnErr result (self.new ≡ self.old) }
     {
         match self.stems.get_mut(stem) {
-            Some(row) => row.add(alloc, tail, value),
+            Some(row) => row.add(tail, value),
             None => {
-                let mut row = StemRow::new(alloc);
-                row.add(alloc, tail, value)?;
-                self.insert_stem(alloc, stem, row)
+                let mut row = StemRow::new(self.alloc);
+                row.add(tail, value)?;
+                self.insert_stem(stem, row)
             }
         }
     }
 
     /// Puts something under a name itself, or wants memory. What stands there already stays, and so does what stands under
     /// the compounds of a stem.
-    pub fn add(&mut self, alloc: Global, name: &Derived, value: V) -> Result<(), OutOfMemory>
+    pub fn add(&mut self, name: &Derived, value: V) -> Result<(), OutOfMemory>
         ensures ok { OnOk result (self.new ≡ with_name self.old name.now value) }
         ensures err { OnErr result (self.new ≡ self.old) }
     {
         match name {
-            Derived::Simple(name) => self.simple.add(alloc, name.bytes(), value),
-            Derived::Stem(stem) => self.add_stem(alloc, stem.bytes(), value),
-            Derived::Compound(stem, tail) => {
-                self.add_tail(alloc, stem.bytes(), tail.bytes(), value)
-            }
+            Derived::Simple(name) => self.simple.add(name.bytes(), value),
+            Derived::Stem(stem) => self.add_stem(stem.bytes(), value),
+            Derived::Compound(stem, tail) => { self.add_tail(stem.bytes(), tail.bytes(), value) }
         }
     }
 }

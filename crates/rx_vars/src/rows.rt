@@ -55,18 +55,13 @@ impl Rows {
     }
 
     /// Gives a name a value or none, or wants memory. With a stem all its compounds have the stem's value, or none.
-    pub fn change(
-        &mut self,
-        alloc: Global,
-        name: &Derived,
-        value: Option<Value>,
-    ) -> Result<(), OutOfMemory>
+    pub fn change(&mut self, name: &Derived, value: Option<Value>) -> Result<(), OutOfMemory>
         ensures ok { OnOk result (self.new ≡ changed self.old name.now value) }
         ensures err { OnErr result (self.new ≡ self.old) }
     {
         self.discarded.free_one();
         self.discarded.free_one();
-        let tails = self.names.change(alloc, name, value)?;
+        let tails = self.names.change(name, value)?;
         if !tails.is_empty() {
             self.discarded.add(tails);
         }

@@ -12,12 +12,16 @@ use std::marker::Model;
 /// Names with what stands under them, each name once. Contracts see the list of them. A look-up takes a time that doesn't
 /// grow with their number.
 pub struct Table<V> {
+    alloc: Global,
     entries: IndexMap<Vec<u8>, V>,
 }
 
 impl<V: Drop> Drop for Table<V> {
     fn drop(self) {
-        let Table { entries: _ } = self;
+        let Table {
+            alloc: _,
+            entries: _,
+        } = self;
     }
 }
 
@@ -39,6 +43,7 @@ impl<V: Drop> Table<V> {
         ensures { result ≡ [] }
     {
         Table {
+            alloc,
             entries: IndexMap::new(alloc),
         }
     }
@@ -58,24 +63,24 @@ impl<V: Drop> Table<V> {
     }
 
     /// Puts something under a name, or wants memory. A new name stands last.
-    pub fn insert(&mut self, alloc: Global, name: &[u8], value: V) -> Result<(), OutOfMemory>
+    pub fn insert(&mut self, name: &[u8], value: V) -> Result<(), OutOfMemory>
         ensures ok { OnOk result (self.new ≡ with_entry self.old name.now value) }
         ensures err { OnErr result (self.new ≡ self.old) }
     {
-        let key = Vec::from_slice(alloc, name)?;
+        let key = Vec::from_slice(self.alloc, name)?;
         self.entries.insert(key, value)?;
         Ok(())
     }
 
     /// Puts something under a name under which nothing stands, or wants memory.
-    pub fn add(&mut self, alloc: Global, name: &[u8], value: V) -> Result<(), OutOfMemory>
+    pub fn add(&mut self, name: &[u8], value: V) -> Result<(), OutOfMemory>
         ensures ok { OnOk result (self.new ≡ with_new self.old name.now value) }
         ensures err { OnErr result (self.new ≡ self.old) }
     {
         if self.entries.contains_key(name) {
             return Ok(());
         }
-        self.insert(alloc, name, value)
+        self.insert(name, value)
     }
 
     /// Takes a name away. The last name takes its place.
@@ -86,17 +91,12 @@ impl<V: Drop> Table<V> {
     }
 
     /// Puts something under a name or takes the name away, or wants memory.
-    pub fn change(
-        &mut self,
-        alloc: Global,
-        name: &[u8],
-        value: Option<V>,
-    ) -> Result<(), OutOfMemory>
+    pub fn change(&mut self, name: &[u8], value: Option<V>) -> Result<(), OutOfMemory>
         ensures ok { OnOk result (self.new ≡ with_change self.old name.now value) }
         ensures err { OnErr result (self.new ≡ self.old) }
     {
         match value {
-            Some(value) => self.insert(alloc, name, value),
+            Some(value) => self.insert(name, value),
             None => {
                 self.remove(name);
                 Ok(())

@@ -57,31 +57,31 @@ impl Vars {
     }
 
     /// Gives a name a value here, wherever it lives, or wants memory. With a stem all its compounds have this value.
-    pub fn set(&mut self, alloc: Global, name: &Derived, value: Value) -> Result<(), OutOfMemory>
+    pub fn set(&mut self, name: &Derived, value: Value) -> Result<(), OutOfMemory>
         ensures ok { OnOk result
             (self.new ≡ record self.old { rows = changed self.old.rows name.now (Some value) }) }
         ensures err { OnErr result (self.new ≡ self.old) }
     {
-        self.rows.change(alloc, name, Some(value))
+        self.rows.change(name, Some(value))
     }
 
     /// Takes a name's value away here, wherever it lives, or wants memory. With a stem all its compounds lose theirs; a
     /// compound alone has its stem's value then, if there is one.
-    pub fn drop_name(&mut self, alloc: Global, name: &Derived) -> Result<(), OutOfMemory>
+    pub fn drop_name(&mut self, name: &Derived) -> Result<(), OutOfMemory>
         ensures ok { OnOk result
             (self.new ≡ record self.old { rows = changed self.old.rows name.now None }) }
         ensures err { OnErr result (self.new ≡ self.old) }
     {
-        self.rows.change(alloc, name, None)
+        self.rows.change(name, None)
     }
 
     /// Exposes a name at a place, or wants memory. A name that is exposed itself already stays where it is.
-    pub fn expose(&mut self, alloc: Global, name: &Derived, place: Place) -> Result<(), OutOfMemory>
+    pub fn expose(&mut self, name: &Derived, place: Place) -> Result<(), OutOfMemory>
         ensures ok { OnOk result
             (self.new ≡ record self.old { exposed = with_name self.old.exposed name.now place }) }
         ensures err { OnErr result (self.new ≡ self.old) }
     {
-        self.exposed.add(alloc, name, place)
+        self.exposed.add(name, place)
     }
 
     /// Where a name lives: at its place where it is exposed, itself or else with its stem, and otherwise here, or in the
