@@ -7,6 +7,8 @@ use Rattle.rx_tree.specs.declared.token.TokenKind.TheVariants as k
 use Rattle.rx_tree.specs.Operators.{Tokens}
 use Rattle.rx_clause_tree.specs.declared.simple.Simple.{Simple}
 use Rattle.rx_clause_tree.specs.declared.simple.Simple.TheVariants as c
+use Rattle.rx_clause_tree.specs.declared.clause.Before.{Before}
+use Rattle.rx_clause_tree.specs.declared.clause.Before.TheVariants.{Nothing, Labels, Clauses}
 use Rattle.rx_clause_tree.specs.declared.clause.Clause.{Clause}
 use Rattle.rx_clause_tree.specs.declared.clause.Body.{Body}
 use Rattle.rx_clause_tree.specs.declared.clause.ClauseKind.TheVariants as x
@@ -44,12 +46,6 @@ is_two_colons _ = false
 abbrev pub ends_body : Tokens → Bool
 ends_body [] = true
 ends_body (t ∷ rest) = is_two_colons t.kind
-
--- what stands before a clause of a body
-pub data Before : Type 0 where
-  Nothing : Before
-  Labels : Before
-  Clauses : Before
 
 -- Labels stand in no other clause. EXPOSE is the first clause of its body, and PROCEDURE stands directly behind a label.
 pub data AreBodyClauses : Before → List Clause → Tokens → Tokens → Type 0 where

@@ -1,6 +1,6 @@
 -- Which tokens clauses are written with. Each fact says that the tokens begin with those of a clause, and which rest stands
 -- behind it; that the clause may stand inside these loops; and how many blocks may stand inside one another in it.
-use Rattle.std.specs.Prelude.{◌≡◌, ◌≢◌, ℕ, suc, Bool, true, false, ◌&&◌, ◌||◌, if◌then◌else◌, List, [], ◌∷◌, Option, Some, None, codes}
+use Rattle.std.specs.Prelude.{◌≡◌, ◌≢◌, ℕ, suc, Bool, true, false, ◌&&◌, ◌||◌, if◌then◌else◌, List, [], ◌∷◌, ◌++◌, Option, Some, None, codes}
 use Rattle.rx_tree.specs.declared.token.Token.{Token}
 use Rattle.rx_tree.specs.declared.token.TokenKind.{TokenKind}
 use Rattle.rx_tree.specs.declared.expr.Expr.{Expr}
@@ -99,7 +99,7 @@ mutual
     -- DO or LOOP with a header, a test or neither; clauses END [v]
     loop : {loops : Loops} {room : ℕ} {header : Header} {test : Test} {clauses : List Clause} {tokens behind inside others rest : Tokens} (t : Token)
         → begins_loop t.kind ≡ true → is_group t.kind tokens ≡ false → IsHeader header tokens behind → IsTest test behind inside
-        → AreClauses (control_of header ∷ loops) room clauses inside others → behind_block (control_of header) others ≡ Some rest
+        → AreClauses (loops ++ control_of header ∷ []) room clauses inside others → behind_block (control_of header) others ≡ Some rest
         → IsInstruction loops (suc room) (x.Loop header test clauses) (t ∷ tokens) rest
 
   -- An ELSE that stands here belongs to the IF before it, the nearest.

@@ -111,7 +111,7 @@ behind_block control (t ∷ rest) = if is_word (codes "END") t.kind then behind_
 
 -- ---- LEAVE and ITERATE
 
--- the loops around a clause in its body, the innermost first, each with the variable that it runs by
+-- the loops around a clause in its body, the innermost last, each with the variable that it runs by
 abbrev pub Loops : Type 0
 Loops = List (Option Name)
 

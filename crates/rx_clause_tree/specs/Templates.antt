@@ -1,5 +1,5 @@
 -- PARSE, ARG and PULL with their templates, and the tokens that they are written with.
-use Rattle.std.specs.Prelude.{◌≡◌, ℕ, Bool, true, false, ◌&&◌, List, [], ◌∷◌, Option, Some, None, codes}
+use Rattle.std.specs.Prelude.{◌≡◌, ℕ, Bool, true, false, List, [], ◌∷◌, Option, Some, None, codes}
 use Rattle.rx_tree.specs.declared.name.Name.{Name}
 use Rattle.rx_tree.specs.declared.token.Token.{Token}
 use Rattle.rx_tree.specs.declared.token.Oper.TheVariants as o
@@ -15,25 +15,20 @@ use Rattle.rx_clause_tree.specs.declared.template.ParseFrom.{ParseFrom}
 use Rattle.rx_clause_tree.specs.declared.template.ParseFrom.TheVariants as f
 use Rattle.rx_clause_tree.specs.declared.template.Parse.{Parse}
 use Rattle.rx_tree.specs.declared.stops.Stops.TheVariants as s
-use Rattle.rx_tree.specs.Letters.{is_digit}
 use Rattle.rx_tree.specs.Operators.{Tokens}
 use Rattle.rx_tree.specs.Expressions.{Fits}
 use Rattle.rx_clause_tree.specs.ClauseWords.{word, variable_of, is_clause_end, is_equal}
 
 -- ---- parts of templates
 
-abbrev pub are_digits : List ℕ → Bool
-are_digits [] = true
-are_digits (byte ∷ bytes) = is_digit byte && are_digits bytes
-
 -- a variable in parentheses
 pub data IsInParentheses : Name → Tokens → Tokens → Type 0 where
   in_parentheses : {name : Name} {rest : Tokens} (t u v : Token) → t.kind ≡ k.LeftParen → variable_of u.kind ≡ Some name → v.kind ≡ k.RightParen
       → IsInParentheses name (t ∷ (u ∷ (v ∷ rest))) rest
 
--- a number: a constant of digits
+-- a number: a constant. Whether it is a whole number shows when it is used
 pub data IsNumber : List ℕ → Tokens → Tokens → Type 0 where
-  number : {rest : Tokens} (t : Token) (text : List ℕ) → t.kind ≡ k.Constant text → are_digits text ≡ true → IsNumber text (t ∷ rest) rest
+  number : {rest : Tokens} (t : Token) (text : List ℕ) → t.kind ≡ k.Constant text → IsNumber text (t ∷ rest) rest
 
 -- how far: a number, or a variable in parentheses
 pub data IsDistance : Distance → Tokens → Tokens → Type 0 where

@@ -39,6 +39,14 @@ pub struct When {
     pub chosen: Clause,
 }
 
+/// What stands before a clause of a body: nothing, labels alone, or other clauses.
+#[derive(Clone, Copy, Debug, PartialEq, Eq)]
+pub enum Before {
+    Nothing,
+    Labels,
+    Clauses,
+}
+
 /// The clauses of the main program, of a method or of a routine, in order.
 pub struct Body {
     pub clauses: Items<Clause>,

@@ -11,7 +11,7 @@ mod loops;
 mod simple;
 mod template;
 
-pub use clause::{Body, Clause, ClauseKind, When};
+pub use clause::{Before, Body, Clause, ClauseKind, When};
 pub use crossing::{template_crosses, trap_crosses};
 pub use instruction::{
     Forward, Forwarded, Parameter, Routine, Trap, share_arguments, share_condition, share_given,

@@ -5,7 +5,8 @@ use rx_tree::{Expr, Name, OutOfMemory, Text};
 use sqlite_items::Items;
 use std::alloc::Global;
 
-/// How far a position of a template is: a constant of digits, or the value of a variable in parentheses.
+/// How far a position of a template is: a constant, or the value of a variable in parentheses. Whether it is a whole number
+/// shows when it is used.
 pub enum Distance {
     Number(Text),
     Value(Name),

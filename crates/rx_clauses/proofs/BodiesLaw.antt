@@ -32,7 +32,9 @@ use Rattle.rx_clause_tree.specs.Assignments as a
 use Rattle.rx_clause_tree.specs.Clauses.{BeginsOther, IsClause, clause}
 use Rattle.rx_clause_tree.specs.Clauses as i
 use Rattle.rx_clause_tree.specs.Bodies as d
-use Rattle.rx_clause_tree.specs.Bodies.{most_blocks, IsExpose, IsProcedure, is_two_colons, ends_body, Before, Nothing, Labels, Clauses, AreBodyClauses, IsBody}
+use Rattle.rx_clause_tree.specs.declared.clause.Before.{Before}
+use Rattle.rx_clause_tree.specs.declared.clause.Before.TheVariants.{Nothing, Labels, Clauses}
+use Rattle.rx_clause_tree.specs.Bodies.{most_blocks, IsExpose, IsProcedure, is_two_colons, ends_body, AreBodyClauses, IsBody}
 use Rattle.rx_clauses.specs.declared.keyword.Keyword.{Keyword}
 use Rattle.rx_clauses.specs.declared.keyword.Keyword.TheVariants as w
 use Rattle.rx_clauses.specs.declared.start.Start.{Start}

@@ -1,5 +1,5 @@
 -- Clauses and blocks: what is written is read, and what is read is written.
-use Rattle.std.proofs.Common.{◌≡◌, ◌≢◌, ℕ, zero, suc, ◌+◌, ◌*◌, ◌<◌, ◌≤◌, Bool, true, false, ◌&&◌, ◌||◌, if◌then◌else◌, List, [], ◌∷◌, length, Option, Some, None, Ok, refl, sym, ◌∙◌, ap, subst, arith}
+use Rattle.std.proofs.Common.{◌≡◌, ◌≢◌, ℕ, zero, suc, ◌+◌, ◌*◌, ◌<◌, ◌≤◌, Bool, true, false, ◌&&◌, ◌||◌, if◌then◌else◌, List, [], ◌∷◌, ◌++◌, length, Option, Some, None, Ok, refl, sym, ◌∙◌, ap, subst, arith}
 use Rattle.std.specs.Prelude.{codes}
 use Rattle.rx_tree.specs.declared.name.Name.{Name}
 use Rattle.rx_tree.specs.declared.token.Token.{Token}
@@ -99,7 +99,7 @@ started t tokens = go (begins_assignment (t ∷ tokens)) refl
 
 -- ---- words between clauses
 
-then-shorter : (tokens inside : Tokens) → behind_then tokens ≡ Some inside → length inside < length tokens
+pub then-shorter : (tokens inside : Tokens) → behind_then tokens ≡ Some inside → length inside < length tokens
 then-shorter [] inside is = cc
 then-shorter (t ∷ rest) inside is = go (is_clause_end t.kind) is
   where
@@ -159,7 +159,7 @@ mutual
   else-shorter (i.no_else none) = omega arith
   else-shorter (i.else_here {tokens = tokens} {inside = inside} is first) = let c = word-shorter (codes "ELSE") tokens inside is in let h = shorter first in omega arith
 
-  whens-shorter : {loops : Loops} {room : ℕ} {list : List When} {tokens rest : Tokens} → AreWhens loops room list tokens rest → length rest ≤ length tokens
+  pub whens-shorter : {loops : Loops} {room : ℕ} {list : List When} {tokens rest : Tokens} → AreWhens loops room list tokens rest → length rest ≤ length tokens
   whens-shorter (i.no_when none) = omega arith
   whens-shorter (i.when_here {behind = behind} {inside = inside} t is fits then_ first others) =
       let c = fits-shorter fits in let d = then-shorter behind inside then_ in let h = shorter first in let g = whens-shorter others in omega arith
@@ -439,7 +439,7 @@ mutual
       sure-then _ _ (otherwise-sure m loops room behind) (λ other others so.
       ended-sure (t ∷ tokens) loops (suc room) 7 None _ others (λ rest ends. i.select t is end are (none-no list some) so ends)))))
 
-  whens-sure : (f : ℕ) (loops : Loops) (room : ℕ) (tokens : Tokens) → Sure (λ list rest. AreWhens loops room list tokens rest) (whens f loops room tokens)
+  pub whens-sure : (f : ℕ) (loops : Loops) (room : ℕ) (tokens : Tokens) → Sure (λ list rest. AreWhens loops room list tokens rest) (whens f loops room tokens)
   whens-sure zero loops room tokens = refused _
   whens-sure (suc m) loops room tokens =
       sure-some _ _ _ (λ none. found [] tokens (i.no_when (symbol-no (codes "WHEN") tokens none))) (λ after is.
@@ -468,7 +468,7 @@ mutual
   loop-sure (suc m) loops room t tokens is isnt =
       sure-then _ _ (header-sure tokens) (λ head behind begun.
       sure-then _ _ (test-sure behind) (λ tested inside so.
-      sure-then _ _ (list-sure m (control_of head ∷ loops) room inside) (λ list others are.
+      sure-then _ _ (list-sure m (loops ++ control_of head ∷ []) room inside) (λ list others are.
       ended-sure (t ∷ tokens) loops (suc room) 10 (control_of head) _ others (λ rest ends. i.loop t is isnt begun so are ends))))
 
   list-sure : (f : ℕ) (loops : Loops) (room : ℕ) (tokens : Tokens) → Sure (λ list rest. AreClauses loops room list tokens rest) (clauses f loops room tokens)

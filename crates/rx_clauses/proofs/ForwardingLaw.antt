@@ -32,7 +32,7 @@ use Rattle.rx_clause_tree.specs.Forwards as i
 use Rattle.rx_clause_tree.specs.Forwards.{IsOperand, AreOptions, IsForward}
 use Rattle.rx_clauses.specs.Forwarding as r
 use Rattle.rx_clauses.proofs.Sure.{Sure, sure-then, sure-some, sure-if, sure-as, as-read, refused, outcome, found}
-use Rattle.rx_clauses.proofs.Words.{left-found}
+use Rattle.rx_clauses.proofs.Words.{First, left-found}
 use Rattle.rx_clauses.proofs.Opens.{expression-read, fits-shorter}
 use Rattle.rx_clauses.proofs.PartsLaw.{group-sure, at-end}
 use Rattle.rx_clauses.proofs.PlainLaw.{at-word}
@@ -93,7 +93,7 @@ operand-shorter (i.string_operand t text is) = omega arith
 operand-shorter (i.variable_operand t is) = omega arith
 operand-shorter (i.group_operand (g.group t u left fits right)) = let h = fits-shorter fits in omega arith
 
-operand-sure : (tokens : Tokens) → Sure (λ one rest. IsOperand one tokens rest) (r.operand tokens)
+pub operand-sure : (tokens : Tokens) → Sure (λ one rest. IsOperand one tokens rest) (r.operand tokens)
 operand-sure [] = refused _
 operand-sure (t ∷ behind) = go t.kind refl
   where
@@ -157,7 +157,21 @@ option-of-sure : (read : Forward) (make : Expr → Forward) (stood : Bool) (toke
     → (stood ≡ false → (expr : Expr) (rest : Tokens) → IsOperand expr behind rest → Goes read tokens (make expr) rest)
     → Sure (λ now rest. Goes read tokens now rest) (r.option_of make stood tokens behind)
 option-of-sure read make stood tokens behind go =
-    sure-if _ _ _ (λ twice. refused _) (λ new. sure-then _ _ (operand-sure behind) (λ expr rest is. found (make expr) rest (go new expr rest is)))
+    sure-then {Is = λ expr rest. (stood ≡ false) × IsOperand expr behind rest} _ _
+    (sure-if _ _ _ (λ twice. refused _) (λ new. sure-as _ (λ expr rest is. (new, is)) (operand-sure behind)))
+    (λ expr rest is. found (make expr) rest (go is.0 expr rest is.1))
+
+record IsArray (stood : Bool) (behind : Tokens) (list : List (Option Expr)) (rest : Tokens) : Type 0 where
+  pub new : stood ≡ false
+  pub inside : Tokens
+  pub first : First (λ t. t.kind ≡ k.LeftParen) behind inside
+  pub are : AreArgs k.RightParen list inside rest
+
+array-once-sure : (stood : Bool) (here behind : Tokens) → Sure (λ list rest. IsArray stood behind list rest) (r.array_once stood here behind)
+array-once-sure stood here behind =
+    sure-if _ _ _ (λ twice. refused _) (λ new.
+    sure-some _ _ _ (λ none. refused _) (λ inside left.
+    sure-as _ (λ list rest are. record { new = new; inside = inside; first = left-found behind inside left; are = are }) (args-sure inside)))
 
 option-sure : (read : Forward) (tokens : Tokens) → Sure (λ now behind. Goes read tokens now behind) (r.option read tokens)
 option-sure read tokens =
@@ -169,13 +183,11 @@ option-sure read tokens =
     sure-some _ _ _ (λ no_continue. refused _)
     (λ behind is. sure-if _ _ _ (λ twice. refused _) (λ new.
     found _ behind (λ whole rest others. at-word (λ ts. AreOptions read whole ts rest) (codes "CONTINUE") tokens behind is (λ t w. i.continue t w new others)))))
-    (λ behind is. sure-if _ _ _ (λ twice. refused _) (λ new.
-    sure-some _ _ _ (λ none. refused _) (λ inside left.
-    sure-then _ _ (args-sure inside) (λ list rest are.
+    (λ behind is. sure-then _ _ (array-once-sure (r.has_args read.args) tokens behind) (λ list rest array.
     found _ rest (λ whole last others.
-    let u = left-found behind inside left in
+    let u = array.first in
     at-word (λ ts. AreOptions read whole ts last) (codes "ARRAY") tokens behind is (λ t w.
-    subst (λ (ts : Tokens). AreOptions read whole (t ∷ ts) last) (sym u.is) (i.array t u.token w u.fact (no-args read.args new) are others))))))))
+    subst (λ (ts : Tokens). AreOptions read whole (t ∷ ts) last) (sym u.is) (i.array t u.token w u.fact (no-args read.args array.new) array.are others))))))
     (λ behind is. option-of-sure read (λ expr. record read { args = f.Arguments expr }) (r.has_args read.args) tokens behind (λ new expr rest operand whole last others.
     at-word (λ ts. AreOptions read whole ts last) (codes "ARGUMENTS") tokens behind is (λ t w. i.arguments t w (no-args read.args new) operand others))))
     (λ behind is. option-of-sure read (λ expr. record read { message = Some expr }) (is_some read.message) tokens behind (λ new expr rest operand whole last others.

@@ -11,3 +11,11 @@ pub mod ParsingLaw
 pub mod SimpleLaw
 pub mod ClausesLaw
 pub mod BodiesLaw
+pub mod Terms
+pub mod Ends
+pub mod Lists
+pub mod BlockForms
+pub mod BodyForms
+pub mod Ways
+pub mod Fronts
+pub mod Places

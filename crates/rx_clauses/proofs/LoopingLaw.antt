@@ -35,7 +35,7 @@ bound-read (i.to t is fits) = rw (is, expression-read fits)
 bound-read (i.by t is fits) = rw (is, expression-read fits)
 bound-read (i.for t is fits) = rw (is, expression-read fits)
 
-bound-shorter : {one : Bound} {tokens rest : Tokens} → IsBound one tokens rest → length rest < length tokens
+pub bound-shorter : {one : Bound} {tokens rest : Tokens} → IsBound one tokens rest → length rest < length tokens
 bound-shorter (i.to t is fits) = let g = fits-shorter fits in omega arith
 bound-shorter (i.by t is fits) = let g = fits-shorter fits in omega arith
 bound-shorter (i.for t is fits) = let g = fits-shorter fits in omega arith
@@ -64,7 +64,7 @@ bounds-shorter (i.no_bound none) = omega arith
 bounds-shorter (i.bound is new others) = let g = bound-shorter is in let j = bounds-shorter others in omega arith
 
 -- a bound, or none where none begins
-abbrev IsBoundOrNone : Tokens → Option Bound → Tokens → Type 0
+abbrev pub IsBoundOrNone : Tokens → Option Bound → Tokens → Type 0
 IsBoundOrNone tokens None rest = (tokens ≡ rest) × (begins_bound tokens ≡ false)
 IsBoundOrNone tokens (Some one) rest = IsBound one tokens rest
 
@@ -72,7 +72,7 @@ bounding-sure : (make : Expr → Bound) (tokens behind : Tokens) → ((expr : Ex
     → Sure (λ one rest. IsBoundOrNone tokens one rest) (r.bounding make behind)
 bounding-sure make tokens behind go = sure-then _ _ (expression-sure s.Loop behind) (λ expr rest fits. found (Some (make expr)) rest (go expr rest fits))
 
-bound-sure : (tokens : Tokens) → Sure (λ one rest. IsBoundOrNone tokens one rest) (r.bound_at tokens)
+pub bound-sure : (tokens : Tokens) → Sure (λ one rest. IsBoundOrNone tokens one rest) (r.bound_at tokens)
 bound-sure tokens =
     sure-some _ _ _ (λ no_to.
     sure-some _ _ _ (λ no_by.

@@ -22,7 +22,7 @@ use Rattle.rx_clause_tree.specs.declared.template.ParseFrom.TheVariants as f
 use Rattle.rx_clause_tree.specs.declared.template.Parse.{Parse}
 use Rattle.rx_clause_tree.specs.ClauseWords.{variable_of, is_clause_end, is_equal}
 use Rattle.rx_clause_tree.specs.Templates as i
-use Rattle.rx_clause_tree.specs.Templates.{are_digits, IsInParentheses, IsNumber, IsDistance, IsTemplatePart, ends_template, AreTemplateParts, AreTemplates, IsParseFrom, has_templates, IsParse}
+use Rattle.rx_clause_tree.specs.Templates.{IsInParentheses, IsNumber, IsDistance, IsTemplatePart, ends_template, AreTemplateParts, AreTemplates, IsParseFrom, has_templates, IsParse}
 use Rattle.rx_clauses.specs.Parts.{is_comma}
 use Rattle.rx_clauses.specs.Parsing as r
 use Rattle.rx_clauses.proofs.Sure.{Sure, sure-then, sure-some, sure-if, sure-as, refused, found}
@@ -54,24 +54,19 @@ in-brackets t behind rest name left is =
     subst (λ (ts : Tokens). IsInParentheses name (t ∷ ts) rest) (sym is.is) (i.in_parentheses t is.first is.second left is.named is.right)
 
 distance-read : {one : Distance} {tokens rest : Tokens} → IsDistance one tokens rest → r.distance tokens ≡ Ok (one, rest)
-distance-read (i.by_number (i.number t text is digits)) = rw (is, digits)
+distance-read (i.by_number (i.number t text is)) = rw is
 distance-read (i.by_value (i.in_parentheses t u v left named right)) = rw (left, named, right)
 
 distance-shorter : {one : Distance} {tokens rest : Tokens} → IsDistance one tokens rest → length rest < length tokens
-distance-shorter (i.by_number (i.number t text is digits)) = omega arith
+distance-shorter (i.by_number (i.number t text is)) = omega arith
 distance-shorter (i.by_value (i.in_parentheses t u v left named right)) = omega arith
-
-digits-sure : (t : Token) (text : List ℕ) (behind : Tokens) → t.kind ≡ k.Constant text
-    → Sure (λ one rest. (one ≡ d.Number text) × IsNumber text (t ∷ behind) rest) (r.digits_of text (t ∷ behind) behind)
-digits-sure t text behind is = sure-if _ _ _ (λ digits. found (d.Number text) behind (refl, i.number t text is digits)) (λ other. refused _)
 
 distance-sure : (tokens : Tokens) → Sure (λ one rest. IsDistance one tokens rest) (r.distance tokens)
 distance-sure [] = refused _
 distance-sure (t ∷ behind) = go t.kind refl
   where
     go : (kind : TokenKind) → t.kind ≡ kind → Sure (λ one rest. IsDistance one (t ∷ behind) rest) (r.distance_of kind (t ∷ behind) behind)
-    go (k.Constant text) is =
-        sure-as _ (λ one rest both. subst (λ (o : Distance). IsDistance o (t ∷ behind) rest) (sym both.0) (i.by_number both.1)) (digits-sure t text behind is)
+    go (k.Constant text) is = found (d.Number text) behind (i.by_number (i.number t text is))
     go k.LeftParen is = sure-then _ _ (closed-sure behind) (λ name rest closed. found (d.Value name) rest (i.by_value (in-brackets t behind rest name is closed)))
     go _ is = refused _
 
@@ -92,17 +87,17 @@ part-read (i.target {name = name} {rest = rest} t named) = part-variable t.kind 
 part-read (i.period t is) = rw is
 part-read (i.literal t text is) = rw is
 part-read (i.pattern_of (i.in_parentheses t u v left named right)) = rw (left, named, right)
-part-read (i.at_number (i.number t text is digits)) = rw (is, digits)
+part-read (i.at_number (i.number t text is)) = rw is
 part-read (i.at_distance t equal far) = rw (equal-kind t.kind equal, distance-read far)
 part-read (i.forward_by t is far) = rw (is, distance-read far)
 part-read (i.backward_by t is far) = rw (is, distance-read far)
 
-part-shorter : {one : TemplatePart} {tokens rest : Tokens} → IsTemplatePart one tokens rest → length rest < length tokens
+pub part-shorter : {one : TemplatePart} {tokens rest : Tokens} → IsTemplatePart one tokens rest → length rest < length tokens
 part-shorter (i.target t named) = omega arith
 part-shorter (i.period t is) = omega arith
 part-shorter (i.literal t text is) = omega arith
 part-shorter (i.pattern_of (i.in_parentheses t u v left named right)) = omega arith
-part-shorter (i.at_number (i.number t text is digits)) = omega arith
+part-shorter (i.at_number (i.number t text is)) = omega arith
 part-shorter (i.at_distance t equal far) = let h = distance-shorter far in omega arith
 part-shorter (i.forward_by t is far) = let h = distance-shorter far in omega arith
 part-shorter (i.backward_by t is far) = let h = distance-shorter far in omega arith
@@ -118,7 +113,7 @@ part-no-end (i.target {name = name} t named) = no-end-variable t.kind name named
 part-no-end (i.period t is) = ap ends_template is
 part-no-end (i.literal t text is) = ap ends_template is
 part-no-end (i.pattern_of (i.in_parentheses t u v left named right)) = ap ends_template left
-part-no-end (i.at_number (i.number t text is digits)) = ap ends_template is
+part-no-end (i.at_number (i.number t text is)) = ap ends_template is
 part-no-end (i.at_distance t equal far) = ap ends_template (equal-kind t.kind equal)
 part-no-end (i.forward_by t is far) = ap ends_template is
 part-no-end (i.backward_by t is far) = ap ends_template is
@@ -130,7 +125,7 @@ operator-sure t o.Plus behind is = sure-then _ _ (distance-sure behind) (λ far 
 operator-sure t o.Minus behind is = sure-then _ _ (distance-sure behind) (λ far rest so. found (p.Backward far) rest (i.backward_by t is so))
 operator-sure t _ behind is = refused _
 
-part-sure : (tokens : Tokens) → Sure (λ one rest. IsTemplatePart one tokens rest) (r.part tokens)
+pub part-sure : (tokens : Tokens) → Sure (λ one rest. IsTemplatePart one tokens rest) (r.part tokens)
 part-sure [] = refused _
 part-sure (t ∷ behind) = go t.kind refl
   where
@@ -140,9 +135,7 @@ part-sure (t ∷ behind) = go t.kind refl
     go (k.Compound stem tail) is = found _ behind (i.target t (ap variable_of is))
     go k.Period is = found p.Period behind (i.period t is)
     go (k.Quoted text) is = found (p.Literal text) behind (i.literal t text is)
-    go (k.Constant text) is =
-        sure-then _ _ (digits-sure t text behind is) (λ far rest both.
-        found (p.At far) rest (subst (λ (x : Distance). IsTemplatePart (p.At x) (t ∷ behind) rest) (sym both.0) (i.at_number both.1)))
+    go (k.Constant text) is = found (p.At (d.Number text)) behind (i.at_number (i.number t text is))
     go k.LeftParen is = sure-then _ _ (closed-sure behind) (λ name rest closed. found (p.Pattern name) rest (i.pattern_of (in-brackets t behind rest name is closed)))
     go (k.Operator oper) is = operator-sure t oper behind is
     go _ is = refused _
@@ -156,11 +149,11 @@ parts-read (i.template_part {one = one} {parts = list} {tokens = tokens} {rest =
     step (λ n. r.parts n tokens ≡ Ok (one ∷ list, rest)) n (omega arith) (λ m also.
     let h = part-shorter is in rw (part-no-end is, part-read is, parts-read others m (omega arith)))
 
-parts-shorter : {list : List TemplatePart} {tokens rest : Tokens} → AreTemplateParts list tokens rest → length rest ≤ length tokens
+pub parts-shorter : {list : List TemplatePart} {tokens rest : Tokens} → AreTemplateParts list tokens rest → length rest ≤ length tokens
 parts-shorter (i.no_template_part t ends) = omega arith
 parts-shorter (i.template_part is others) = let h = part-shorter is in let j = parts-shorter others in omega arith
 
-parts-sure : (n : ℕ) (tokens : Tokens) → Sure (λ list rest. AreTemplateParts list tokens rest) (r.parts n tokens)
+pub parts-sure : (n : ℕ) (tokens : Tokens) → Sure (λ list rest. AreTemplateParts list tokens rest) (r.parts n tokens)
 parts-sure zero tokens = refused _
 parts-sure (suc m) tokens =
     sure-if _ _ _ (λ ends. found [] tokens (no-parts tokens ends)) (λ other.
@@ -190,10 +183,12 @@ templates-shorter (i.next_template t are comma others) = let h = parts-shorter a
 pub templates-sure : (n : ℕ) (tokens : Tokens) → Sure (λ list rest. AreTemplates list tokens rest) (r.templates n tokens)
 templates-sure zero tokens = refused _
 templates-sure (suc m) tokens =
-    sure-then _ _ (parts-sure (length tokens + 1) tokens) (λ parts behind are.
-    behind-sure 38 (λ ts. r.templates m ts) (r.template_of parts) behind
-    (λ t rest same comma. sure-as _ (λ list others more. i.next_template t (subst (λ (ts : Tokens). AreTemplateParts parts tokens ts) same are) comma more) (templates-sure m rest))
-    (λ t rest same end. i.last_template t (subst (λ (ts : Tokens). AreTemplateParts parts tokens ts) same are) end))
+    sure-then {Is = λ one rest. (parts : List TemplatePart) × (one ≡ r.template_of parts) × AreTemplateParts parts tokens rest} _ _
+    (sure-then _ _ (parts-sure (length tokens + 1) tokens) (λ parts behind are. found (r.template_of parts) behind (parts, refl, are)))
+    (λ one behind is. rw is.1 (
+    behind-sure 38 (λ ts. r.templates m ts) (r.template_of is.0) behind
+    (λ t rest same comma. sure-as _ (λ list others more. i.next_template t (subst (λ (ts : Tokens). AreTemplateParts is.0 tokens ts) same is.2) comma more) (templates-sure m rest))
+    (λ t rest same end. i.last_template t (subst (λ (ts : Tokens). AreTemplateParts is.0 tokens ts) same is.2) end)))
 
 -- ---- where the texts come from
 

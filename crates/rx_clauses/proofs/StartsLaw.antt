@@ -99,7 +99,7 @@ split-behind : (one : SendPart) (before : List SendPart) (last : SendPart) → s
 split-behind one [] last = refl
 split-behind one (next ∷ before) last = rw (split-behind next before last)
 
-split-is : (before : List SendPart) (last : SendPart) → split_last (before ++ last ∷ []) ≡ Some (before, last)
+pub split-is : (before : List SendPart) (last : SendPart) → split_last (before ++ last ∷ []) ≡ Some (before, last)
 split-is [] last = refl
 split-is (one ∷ before) last = split-behind one before last
 
@@ -117,7 +117,7 @@ is-split : (parts : List SendPart) (found : List SendPart × SendPart) → split
 is-split [] found is = cc
 is-split (one ∷ parts) found is = behind-split one parts found is
 
-loose-sends : (receiver : Expr) (parts : List SendPart) → looseness (e.Sends receiver parts) ≡ 1
+pub loose-sends : (receiver : Expr) (parts : List SendPart) → looseness (e.Sends receiver parts) ≡ 1
 unfolding looseness
 loose-sends receiver parts = ap layer_looseness (e.outs-Sends receiver parts)
 

@@ -1,5 +1,5 @@
 -- The reader of FORWARD, behind its keyword.
-use Rattle.std.specs.Prelude.{ℕ, zero, suc, ◌+◌, Bool, true, false, if◌then◌else◌, [], ◌∷◌, length, Option, Some, None, is_some, Ok, Err, codes}
+use Rattle.std.specs.Prelude.{ℕ, zero, suc, ◌+◌, Bool, true, false, if◌then◌else◌, List, [], ◌∷◌, length, Option, Some, None, is_some, Ok, Err, codes}
 use Rattle.rx_tree.specs.declared.name.Name.{Name}
 use Rattle.rx_tree.specs.declared.token.TokenKind.{TokenKind}
 use Rattle.rx_tree.specs.declared.token.TokenKind.TheVariants as k
@@ -31,18 +31,25 @@ abbrev pub operand : Tokens → Outcome Expr
 operand [] = Err (refusal 19 [])
 operand (t ∷ behind) = operand_of t.kind (t ∷ behind) behind
 
--- an option's word and its operand, where it didn't stand before
+-- the operand of an option behind its word, where the option didn't stand before
+abbrev pub operand_once : Bool → Tokens → Tokens → Outcome Expr
+operand_once stood here behind = if stood then Err (lack 25 here) else operand behind
+
 abbrev pub option_of : (Expr → Forward) → Bool → Tokens → Tokens → Outcome Forward
-option_of make stood here behind = if stood then Err (lack 25 here) else and_then (operand behind) (λ expr rest. Ok (make expr, rest))
+option_of make stood here behind = and_then (operand_once stood here behind) (λ expr rest. Ok (make expr, rest))
 
 abbrev pub has_args : Forwarded → Bool
 has_args f.Own = false
 has_args _ = true
 
+-- the arguments of ARRAY behind its word, where no arguments stood before
+abbrev pub array_once : Bool → Tokens → Tokens → Outcome (List (Option Expr))
+array_once stood here behind =
+    if stood then Err (lack 25 here) else on_some (left_at behind) (Err (refusal 25 behind)) (λ inside. args_form Round inside)
+
 abbrev pub array_of : Forward → Tokens → Tokens → Outcome Forward
 array_of read here behind =
-    if has_args read.args then Err (lack 25 here)
-    else on_some (left_at behind) (Err (refusal 25 behind)) (λ inside. and_then (args_form Round inside) (λ args rest. Ok (record read { args = f.Array args }, rest)))
+    and_then (array_once (has_args read.args) here behind) (λ args rest. Ok (record read { args = f.Array args }, rest))
 
 abbrev pub continue_of : Forward → Tokens → Tokens → Outcome Forward
 continue_of read here behind = if read.goes_on then Err (lack 25 here) else Ok (record read { goes_on = true }, behind)

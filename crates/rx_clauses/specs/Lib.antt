@@ -6,4 +6,6 @@ pub mod Forwarding
 pub mod Parsing
 pub mod Keywords
 pub mod Reader
+pub mod Forms
 pub mod Laws
+pub mod Parsed

@@ -55,7 +55,7 @@ controlled_by (Some name) u behind = if is_equal u.kind then counts name behind 
 
 abbrev pub controlled : Tokens → Outcome Header
 controlled [] = Err (lack 27 [])
-controlled (t ∷ []) = Err (lack 27 [])
+controlled (t ∷ []) = Err (lack 27 (t ∷ []))
 controlled (t ∷ (u ∷ behind)) = controlled_by (variable_of t.kind) u behind
 
 abbrev pub times : Tokens → Outcome Header
@@ -84,6 +84,10 @@ test tokens =
 
 abbrev pub loop_name : Tokens → Outcome (Option Name)
 loop_name tokens = on_some (behind_end tokens) (and_then (variable_at tokens) (λ name behind. to_end (Some name) behind)) (λ rest. Ok (None, rest))
+
+-- the loop that is meant, which must be around the clause
+abbrev pub meant : Loops → Tokens → Outcome (Option Name)
+meant loops tokens = and_then (loop_name tokens) (λ name rest. if are_around name loops then Ok (name, rest) else Err (lack 28 tokens))
 
 abbrev pub looping : Loops → (Option Name → Simple) → Tokens → Outcome Simple
 looping loops make tokens =

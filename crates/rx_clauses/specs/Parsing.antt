@@ -18,8 +18,8 @@ use Rattle.rx_clause_tree.specs.declared.template.Template.{Template}
 use Rattle.rx_clause_tree.specs.declared.template.ParseFrom.{ParseFrom}
 use Rattle.rx_clause_tree.specs.declared.template.ParseFrom.TheVariants as f
 use Rattle.rx_clause_tree.specs.declared.template.Parse.{Parse}
-use Rattle.rx_clause_tree.specs.Templates.{are_digits, ends_template, has_templates}
-use Rattle.rx_clauses.specs.Parts.{variable_at, behind_symbol, behind_one}
+use Rattle.rx_clause_tree.specs.Templates.{ends_template, has_templates}
+use Rattle.rx_clauses.specs.Parts.{variable_at, behind_symbol, separated}
 
 -- ---- parts of templates
 
@@ -32,11 +32,8 @@ closing name (v ∷ rest) = if is_right v.kind then Ok (name, rest) else Err (la
 abbrev pub in_parentheses : Tokens → Outcome Name
 in_parentheses tokens = and_then (variable_at tokens) (λ name behind. closing name behind)
 
-abbrev pub digits_of : List ℕ → Tokens → Tokens → Outcome Distance
-digits_of text here behind = if are_digits text then Ok (d.Number text, behind) else Err (lack 38 here)
-
 abbrev pub distance_of : TokenKind → Tokens → Tokens → Outcome Distance
-distance_of (k.Constant text) here behind = digits_of text here behind
+distance_of (k.Constant text) here behind = Ok (d.Number text, behind)
 distance_of k.LeftParen here behind = and_then (in_parentheses behind) (λ name rest. Ok (d.Value name, rest))
 distance_of _ here behind = Err (lack 38 here)
 
@@ -57,7 +54,7 @@ part_of (k.Stem stem) here behind = Ok (p.Target (n.Stem stem), behind)
 part_of (k.Compound stem tail) here behind = Ok (p.Target (n.Compound stem tail), behind)
 part_of k.Period here behind = Ok (p.Period, behind)
 part_of (k.Quoted text) here behind = Ok (p.Literal text, behind)
-part_of (k.Constant text) here behind = and_then (digits_of text here behind) (λ far rest. Ok (p.At far, rest))
+part_of (k.Constant text) here behind = Ok (p.At (d.Number text), behind)
 part_of k.LeftParen here behind = and_then (in_parentheses behind) (λ name rest. Ok (p.Pattern name, rest))
 part_of (k.Operator oper) here behind = by_operator oper here behind
 part_of _ here behind = Err (lack 38 here)
@@ -82,11 +79,12 @@ parts (suc more) tokens =
 abbrev pub template_of : List TemplatePart → Template
 template_of parts = record { parts = parts }
 
+abbrev pub template_at : Tokens → Outcome Template
+template_at tokens = and_then (parts (length tokens + 1) tokens) (λ list rest. Ok (template_of list, rest))
+
 -- templates with commas between them, and the end of the clause
 abbrev pub templates : ℕ → Tokens → Outcome (List Template)
-templates zero tokens = no_turns
-templates (suc more) tokens =
-    and_then (parts (length tokens + 1) tokens) (λ list behind. behind_one 38 (λ ts. templates more ts) (template_of list) behind)
+templates more tokens = separated 38 (λ ts. template_at ts) more tokens
 
 -- ---- where the texts come from
 

@@ -43,11 +43,19 @@ abbrev pub is_comma : TokenKind → Bool
 is_comma k.Comma = true
 is_comma _ = false
 
+-- what stands behind a comma here
+abbrev pub behind_comma : Tokens → Option Tokens
+behind_comma [] = None
+behind_comma (t ∷ rest) = if is_comma t.kind then Some rest else None
+
 -- ---- ends
 
--- what was found, and the end of the clause behind it
+-- what was found, and the end of the clause behind it. Another token is refused by this number
+abbrev pub to_end_by : {A : Type 0} → ℕ → A → Tokens → Outcome A
+to_end_by number found tokens = on_some (behind_end tokens) (Err (refusal number tokens)) (λ rest. Ok (found, rest))
+
 abbrev pub to_end : {A : Type 0} → A → Tokens → Outcome A
-to_end found tokens = on_some (behind_end tokens) (Err (refusal 21 tokens)) (λ rest. Ok (found, rest))
+to_end found tokens = to_end_by 21 found tokens
 
 -- an expression, and the end of the clause
 abbrev pub last_expression : Tokens → Outcome Expr
@@ -97,10 +105,14 @@ behind_one number further one (t ∷ rest) =
     if is_comma t.kind then and_then (further rest) (λ list others. Ok (one ∷ list, others))
     else (if is_clause_end t.kind then Ok (one ∷ [], rest) else Err (refusal number (t ∷ rest)))
 
+-- some of these with commas between them, one at least, and the end of the clause
+abbrev pub separated : {A : Type 0} → ℕ → (Tokens → Outcome A) → ℕ → Tokens → Outcome (List A)
+separated number item zero tokens = no_turns
+separated number item (suc more) tokens = and_then (item tokens) (λ one behind. behind_one number (λ ts. separated number item more ts) one behind)
+
 -- arguments of CALL with commas between them, and the end of the clause
 abbrev pub arguments_from : ℕ → Tokens → Outcome (List (Option Expr))
-arguments_from zero tokens = no_turns
-arguments_from (suc more) tokens = and_then (argument tokens) (λ arg behind. behind_one 21 (λ ts. arguments_from more ts) arg behind)
+arguments_from more tokens = separated 21 (λ ts. argument ts) more tokens
 
 abbrev pub arguments : Tokens → Outcome (List (Option Expr))
 arguments tokens = on_some (behind_end tokens) (arguments_from (length tokens + 1) tokens) (λ rest. Ok ([], rest))

@@ -1,5 +1,5 @@
 -- The reader of instructions that hold no other clause: each behind its keyword.
-use Rattle.std.specs.Prelude.{ℕ, zero, suc, ◌+◌, Bool, true, false, if◌then◌else◌, List, [], ◌∷◌, length, Option, Some, None, Ok, Err, codes}
+use Rattle.std.specs.Prelude.{ℕ, ◌+◌, Bool, true, false, if◌then◌else◌, List, [], ◌∷◌, length, Option, Some, None, Ok, Err, codes}
 use Rattle.rx_tree.specs.declared.activity.Condition.{Condition}
 use Rattle.rx_tree.specs.declared.activity.Condition.TheVariants as y
 use Rattle.rx_tree.specs.declared.activity.TraceSetting.{TraceSetting}
@@ -12,13 +12,13 @@ use Rattle.rx_tree.specs.declared.value.Value.TheVariants.{Str}
 use Rattle.rx_tree.specs.declared.stops.Stops.TheVariants as s
 use Rattle.rx_tree.specs.Operators.{Tokens}
 use Rattle.rx_tree.specs.Terms.{name_of, is_string}
-use Rattle.rx_exprs.specs.Reader.{Outcome, and_then, on_some, lack, refusal, no_turns, expression}
+use Rattle.rx_exprs.specs.Reader.{Outcome, and_then, on_some, lack, refusal, expression}
 use Rattle.rx_clause_tree.specs.declared.instruction.Parameter.{Parameter}
 use Rattle.rx_clause_tree.specs.declared.simple.Simple.{Simple}
 use Rattle.rx_clause_tree.specs.declared.simple.Simple.TheVariants as c
 use Rattle.rx_clause_tree.specs.ClauseWords.{is_word, behind_end, is_equal}
 use Rattle.rx_clause_tree.specs.Instructions.{label_of, setting_of}
-use Rattle.rx_clauses.specs.Parts.{taken, variable_at, symbol_at, behind_symbol, behind_one, to_end, last_expression, given, some_names, group, arguments}
+use Rattle.rx_clauses.specs.Parts.{taken, variable_at, symbol_at, behind_symbol, separated, to_end, last_expression, given, some_names, group, arguments}
 
 -- ---- traps
 
@@ -60,11 +60,15 @@ call_named string None here behind = Err (lack 19 here)
 call_named string (Some name) here behind =
     and_then (arguments behind) (λ args rest. Ok (c.Call (record { name = name; is_string = string; args = args }), rest))
 
+abbrev pub call_routine : Tokens → Outcome Simple
+call_routine [] = Err (lack 19 [])
+call_routine (u ∷ tokens) = call_named (is_string u.kind) (name_of u.kind) (u ∷ tokens) tokens
+
 abbrev pub call : Tokens → Outcome Simple
 call [] = Err (lack 19 [])
 call (u ∷ tokens) =
     if is_word (codes "ON") u.kind then call_on tokens
-    else (if is_word (codes "OFF") u.kind then call_off tokens else call_named (is_string u.kind) (name_of u.kind) (u ∷ tokens) tokens)
+    else (if is_word (codes "OFF") u.kind then call_off tokens else call_routine (u ∷ tokens))
 
 abbrev pub signal_on : Tokens → Outcome Simple
 signal_on tokens =
@@ -99,8 +103,7 @@ abbrev pub parameter : Tokens → Outcome Parameter
 parameter tokens = and_then (variable_at tokens) (λ name behind. default_at name behind)
 
 abbrev pub parameters : ℕ → Tokens → Outcome (List Parameter)
-parameters zero tokens = no_turns
-parameters (suc more) tokens = and_then (parameter tokens) (λ one behind. behind_one 21 (λ ts. parameters more ts) one behind)
+parameters more tokens = separated 21 (λ ts. parameter ts) more tokens
 
 abbrev pub use_args : Bool → Tokens → Outcome Simple
 use_args strict tokens =

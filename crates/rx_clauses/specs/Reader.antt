@@ -1,5 +1,5 @@
 -- The reader of clauses and bodies, which refuses with the number of an error.
-use Rattle.std.specs.Prelude.{ℕ, zero, suc, ◌+◌, ◌*◌, Bool, true, false, if◌then◌else◌, List, [], ◌∷◌, length, Option, Some, None, Ok, Err, codes}
+use Rattle.std.specs.Prelude.{ℕ, zero, suc, ◌+◌, ◌*◌, Bool, true, false, if◌then◌else◌, List, [], ◌∷◌, ◌++◌, length, Option, Some, None, Ok, Err, codes}
 use Rattle.rx_tree.specs.declared.name.Name.{Name}
 use Rattle.rx_tree.specs.declared.expr.Expr.{Expr}
 use Rattle.rx_tree.specs.declared.stops.Stops.TheVariants as s
@@ -17,7 +17,9 @@ use Rattle.rx_clause_tree.specs.declared.clause.When.{When}
 use Rattle.rx_clause_tree.specs.ClauseWords.{symbol_of, begins_word, behind_end, skip, behind_word, begins_assignment, begins_label}
 use Rattle.rx_clause_tree.specs.Loops.{Loops, control_of, behind_block}
 use Rattle.rx_clause_tree.specs.Clauses.{behind_then, clause, when}
-use Rattle.rx_clause_tree.specs.Bodies.{Before, Nothing, Labels, Clauses, ends_body, most_blocks}
+use Rattle.rx_clause_tree.specs.declared.clause.Before.{Before}
+use Rattle.rx_clause_tree.specs.declared.clause.Before.TheVariants.{Nothing, Labels, Clauses}
+use Rattle.rx_clause_tree.specs.Bodies.{ends_body, most_blocks}
 use Rattle.rx_clauses.specs.declared.keyword.Keyword.{Keyword}
 use Rattle.rx_clauses.specs.declared.keyword.Keyword.TheVariants as w
 use Rattle.rx_clauses.specs.declared.keyword.Word.{Word}
@@ -95,6 +97,10 @@ line_of (t ∷ tokens) = t.line
 abbrev pub unended : ℕ → Tokens → ℕ
 unended number tokens = if ends_body tokens then 14 else (if begins_word (codes "END") tokens then 10 else number)
 
+-- the number of a SELECT without WHEN
+abbrev pub no_when : Tokens → ℕ
+no_when tokens = if ends_body tokens then 14 else 7
+
 -- the end of a block
 abbrev pub ended : ℕ → Option Name → ClauseKind → Tokens → Outcome ClauseKind
 ended number control kind tokens = on_some (behind_block control tokens) (Err (lack (unended number tokens) tokens)) (λ rest. Ok (kind, rest))
@@ -142,7 +148,7 @@ abbrev mutual
   choice zero loops room tokens = no_turns
   choice (suc more) loops room tokens =
       and_then (expression s.Then tokens) (λ test after.
-      on_some (behind_then after) (Err (lack 18 after)) (λ inside.
+      on_some (behind_then after) (Err (refusal 18 after)) (λ inside.
       and_then (read more loops room inside) (λ first others.
       and_then (else_clause more loops room others) (λ other rest. Ok (x.If test first other, rest)))))
 
@@ -157,7 +163,7 @@ abbrev mutual
   select (suc more) loops room tokens =
       on_some (behind_end tokens) (Err (refusal 21 tokens)) (λ inside.
       and_then (whens more loops room inside) (λ list after.
-      if are_none list then Err (lack (unended 7 after) after)
+      if are_none list then Err (lack (no_when after) after)
       else and_then (otherwise more loops room after) (λ other others. ended 7 None (x.Select list other) others)))
 
   pub whens : ℕ → Loops → ℕ → Tokens → Outcome (List When)
@@ -165,7 +171,7 @@ abbrev mutual
   whens (suc more) loops room tokens =
       on_some (behind_symbol (codes "WHEN") tokens) (Ok ([], tokens)) (λ after.
       and_then (expression s.Then after) (λ test others.
-      on_some (behind_then others) (Err (lack 18 others)) (λ inside.
+      on_some (behind_then others) (Err (refusal 18 others)) (λ inside.
       and_then (read more loops room inside) (λ first further.
       and_then (whens more loops room further) (λ list rest. Ok (when test first ∷ list, rest))))))
 
@@ -184,7 +190,7 @@ abbrev mutual
   loop (suc more) loops room tokens =
       and_then (header tokens) (λ found after.
       and_then (test after) (λ tested inside.
-      and_then (clauses more (control_of found ∷ loops) room inside) (λ list others. ended 10 (control_of found) (x.Loop found tested list) others)))
+      and_then (clauses more (loops ++ control_of found ∷ []) room inside) (λ list others. ended 10 (control_of found) (x.Loop found tested list) others)))
 
   -- clauses up to END
   pub clauses : ℕ → Loops → ℕ → Tokens → Outcome (List Clause)

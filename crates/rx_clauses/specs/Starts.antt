@@ -1,5 +1,5 @@
 -- What a clause that isn't an instruction is read as.
-use Rattle.std.specs.Prelude.{ℕ, ◌||◌, ◌&&◌, not, if◌then◌else◌, ◌==◌, List, [], ◌∷◌, Option, Some, None, Ok, Err, codes}
+use Rattle.std.specs.Prelude.{◌≡◌, ℕ, Bool, ◌||◌, ◌&&◌, not, if◌then◌else◌, ◌==◌, List, [], ◌∷◌, Option, Some, None, Ok, Err, codes}
 use Rattle.rx_tree.specs.declared.name.Name.{Name}
 use Rattle.rx_tree.specs.declared.token.Oper.{Oper}
 use Rattle.rx_tree.specs.declared.expr.Expr.{Expr, out-Expr}
@@ -83,6 +83,28 @@ if_read (Err fault) = None
 unfoldable pub assigned_at : Tokens → Option (Assigned × Tokens)
 assigned_at tokens = if_read (level_form s.Nothing 1 tokens)
 
+-- the term that was read, or none
+abbrev pub IsRead : Outcome Expr → Option Expr → Tokens → Type 0
+IsRead outcome (Some term) new = outcome ≡ Ok (term, new)
+IsRead outcome None new = if_read outcome ≡ None
+
+-- something is found, and what stands behind it; or nothing is
+abbrev pub IsTaken : Option (Assigned × Tokens) → Option Assigned → Tokens → Type 0
+IsTaken found (Some one) new = found ≡ Some (one, new)
+IsTaken found None new = found ≡ None
+
+abbrev pub behind_it : Tokens → Option Assigned → Option (Assigned × Tokens)
+behind_it rest None = None
+behind_it rest (Some one) = Some (one, rest)
+
+-- what a layer of a term gives where it is assigned to, whatever stands behind it
+abbrev pub IsSplit : Expr-F Expr SendPart → Option Assigned → Type 0
+IsSplit layer found = (rest : Tokens) → assigned_sends layer rest ≡ behind_it rest found
+
+-- whether an expression is a term with messages
+abbrev pub is_message_term : Expr → Bool
+is_message_term term = looseness term == 1
+
 abbrev pub send_assign : Assigned → Tokens → Outcome Simple
 send_assign term tokens = and_then (last_expression tokens) (λ expr rest. Ok (c.SendAssign term.0 term.1 expr, rest))
 
@@ -99,4 +121,4 @@ no_clause_word (t ∷ behind) =
 abbrev pub message : Tokens → Outcome Simple
 message tokens =
     and_then (last_expression tokens) (λ term rest.
-    if looseness term == 1 then Ok (c.Message term, rest) else Err (lack (no_clause_word tokens) tokens))
+    if is_message_term term then Ok (c.Message term, rest) else Err (lack (no_clause_word tokens) tokens))

@@ -20,7 +20,7 @@ use Rattle.rx_exprs.proofs.Law.{form_fits, form_refuses, none_fits}
 pub slice-is : (from : ℕ) (tokens : Tokens) → take (length tokens - from) (drop from tokens) ≡ drop from tokens
 slice-is from tokens = ap (λ n. take n (drop from tokens)) (sym (length-drop from tokens)) ∙ take-length (drop from tokens)
 
-place-behind : (from : ℕ) (tokens front rest : Tokens) → from ≤ length tokens → drop from tokens ≡ front ++ rest → drop (length tokens - length rest) tokens ≡ rest
+pub place-behind : (from : ℕ) (tokens front rest : Tokens) → from ≤ length tokens → drop from tokens ≡ front ++ rest → drop (length tokens - length rest) tokens ≡ rest
 place-behind from tokens front rest within is =
     let whole : length tokens - from ≡ length front + length rest = sym (length-drop from tokens) ∙ ap length is ∙ length-append front rest in
     let place : length tokens - length rest ≡ from + length front = omega arith in

@@ -29,7 +29,7 @@ use Rattle.rx_exprs.proofs.Shorter.{part-shorter}
 
 -- ---- steps that are the same
 
-then-same : {A B : Type 0} (x y : Outcome A) (f g : A → Tokens → Outcome B) → x ≡ y → ((a : A) (rest : Tokens) → x ≡ Ok (a, rest) → f a rest ≡ g a rest)
+pub then-same : {A B : Type 0} (x y : Outcome A) (f g : A → Tokens → Outcome B) → x ≡ y → ((a : A) (rest : Tokens) → x ≡ Ok (a, rest) → f a rest ≡ g a rest)
     → and_then x f ≡ and_then y g
 then-same {A = A} {B = B} x y f g is same = go x refl ∙ ap (λ z. and_then z g) is
   where
@@ -37,11 +37,11 @@ then-same {A = A} {B = B} x y f g is same = go x refl ∙ ap (λ z. and_then z g
     go (Err fault) p = refl
     go (Ok found) p = same found.0 found.1 p
 
-some-same : {A B : Type 0} (x : Option A) (y : Outcome B) (z : Outcome B) (f g : A → Outcome B) → y ≡ z → ((a : A) → x ≡ Some a → f a ≡ g a) → on_some x y f ≡ on_some x z g
+pub some-same : {A B : Type 0} (x : Option A) (y : Outcome B) (z : Outcome B) (f g : A → Outcome B) → y ≡ z → ((a : A) → x ≡ Some a → f a ≡ g a) → on_some x y f ≡ on_some x z g
 some-same None y z f g is same = is
 some-same (Some a) y z f g is same = same a refl
 
-if-same : {A : Type 0} (b : Bool) (x y z w : A) → x ≡ z → y ≡ w → (if b then x else y) ≡ (if b then z else w)
+pub if-same : {A : Type 0} (b : Bool) (x y z w : A) → x ≡ z → y ≡ w → (if b then x else y) ≡ (if b then z else w)
 if-same true x y z w p q = p
 if-same false x y z w p q = q
 

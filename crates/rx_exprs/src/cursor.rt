@@ -48,6 +48,20 @@ impl<'a> Cursor<'a> {
         Cursor { rest: tokens }
     }
 
+    /// The tokens that are left.
+    pub fn rest(&self) -> &'a [Token]
+        ensures { result.now ≡ self.now }
+    {
+        self.rest
+    }
+
+    /// Goes to where these tokens are left.
+    pub fn go_to(&mut self, rest: &'a [Token])
+        ensures { self.new ≡ rest.now }
+    {
+        self.rest = rest;
+    }
+
     /// How many tokens are left.
     pub fn left(&self) -> usize
         ensures { result ≡ length self.now }
@@ -69,8 +83,8 @@ impl<'a> Cursor<'a> {
         })
     }
 
-    // The refusal of what stands here, where something else is missing.
-    fn lack(&self, number: u8) -> Refused
+    /// The refusal of what stands here, where something else is missing.
+    pub fn lack(&self, number: u8) -> Refused
         ensures { fault_of result ≡ lack number self.now }
     {
         Refused::Bad(Fault {

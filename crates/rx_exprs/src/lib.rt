@@ -9,7 +9,9 @@ mod refused;
 mod trees;
 mod words;
 
+pub use cursor::Cursor;
 pub use laws::expression_laws;
-pub use parser::{DEEPEST, parse_expr};
-pub use refused::ParseRefused;
+pub use parser::{DEEPEST, parse_expr, read_args, read_expr, read_term};
+pub use refused::{Fault, ParseRefused, Refused};
 pub use rx_tree::Stops;
+pub use words::name_of;

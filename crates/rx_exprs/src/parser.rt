@@ -3,7 +3,10 @@ ghost use Rattle.std.specs.Prelude.{◌≡◌, ◌+◌, ◌^◌, ◌<◌, ◌≤
 ghost use Rattle.rx_tree.specs.Expressions.{Fits};
 ghost use Rattle.rx_tree.specs.declared.expr.SendPart.{SendPart};
 ghost use Rattle.rx_scan.specs.Depth.{bracket_depth};
+ghost use Rattle.rx_tree.specs.declared.stops.Stops.TheVariants.{Nothing};
+ghost use Rattle.rx_exprs.specs.declared.operators.Bracketed.TheVariants.{Round};
 ghost use Rattle.rx_exprs.specs.Forms as spec;
+ghost use Rattle.rx_exprs.specs.Reader.{expression};
 ghost use Rattle.rx_exprs.specs.Reads.{Reads};
 ghost use Rattle.rx_exprs.specs.Parsed.{IsRefused};
 
@@ -207,6 +210,29 @@ fn argument(
         return Ok(None);
     }
     Ok(Some(chain(alloc, tokens, Stops::Nothing, LOOSEST)?))
+}
+
+/// The expression that begins here and holds none of the stop words outside brackets, where nothing goes on with it; for a
+/// reader of what expressions stand in.
+#[tactic(auto, using(crate::proofs::Steady::whole))]
+pub fn read_expr(alloc: Global, tokens: &mut Cursor<'_>, stops: Stops) -> Result<Expr, Refused>
+    ensures { Reads (expression stops tokens.old) result tokens.new }
+{
+    chain(alloc, tokens, stops, LOOSEST)
+}
+
+/// The term that begins here, with its messages; for a reader of what terms stand in.
+pub fn read_term(alloc: Global, tokens: &mut Cursor<'_>) -> Result<Expr, Refused>
+    ensures { Reads (spec.level_form Nothing 1 tokens.old) result tokens.new }
+{
+    message_term(alloc, tokens, Stops::Nothing)
+}
+
+/// The arguments behind an opening parenthesis, up to the closing one.
+pub fn read_args(alloc: Global, tokens: &mut Cursor<'_>) -> Result<Items<Option<Expr>>, Refused>
+    ensures { Reads (spec.args_form Round tokens.old) result tokens.new }
+{
+    args(alloc, tokens, Bracketed::Round)
 }
 
 /// The expression that begins at a place and holds none of the stop words outside brackets, with the place behind it, where
