@@ -3,6 +3,7 @@ use Rattle.std.proofs.Common.{◌≡◌, ℕ, ◌+◌, ◌-◌, ◌<◌, ◌≤�
 use Rattle.std.specs.Prelude.{codes, MatchOption}
 use Rattle.rx_tree.specs.declared.name.Name.{Name}
 use Rattle.rx_tree.specs.declared.expr.Expr.{Expr}
+use Rattle.rx_tree.specs.declared.expr.SendPart.{SendPart}
 use Rattle.rx_tree.specs.declared.stops.Stops.TheVariants as s
 use Rattle.rx_tree.specs.Operators.{Tokens}
 use Rattle.rx_exprs.specs.declared.refused.Fault.{Fault}
@@ -15,8 +16,9 @@ use Rattle.rx_clause_tree.specs.declared.loops.Header.{Header}
 use Rattle.rx_clause_tree.specs.declared.loops.Test.{Test}
 use Rattle.rx_clause_tree.specs.declared.simple.Simple.{Simple}
 use Rattle.rx_clause_tree.specs.ClauseWords.{begins_word, behind_end, behind_word, begins_assignment, begins_label}
-use Rattle.rx_clause_tree.specs.Loops.{Loops, control_of, are_around}
+use Rattle.rx_clause_tree.specs.Loops.{Loops, control_of, are_around, behind_block}
 use Rattle.rx_clause_tree.specs.Clauses.{behind_then, clause, when}
+use Rattle.rx_clause_tree.specs.Bodies.{ends_body}
 use Rattle.rx_clauses.specs.declared.keyword.Keyword.{Keyword}
 use Rattle.rx_clauses.specs.declared.keyword.Keyword.TheVariants as w
 use Rattle.rx_clauses.specs.declared.keyword.Word.{Word}
@@ -25,10 +27,10 @@ use Rattle.rx_clauses.specs.Looping.{header, test, loop_name, meant, looping}
 use Rattle.rx_clauses.specs.declared.start.Start.{Start}
 use Rattle.rx_clauses.specs.declared.start.Start.TheVariants as b
 use Rattle.rx_clauses.specs.Keywords.{keyword_of}
-use Rattle.rx_clauses.specs.Starts.{Assigned, assigned_at}
-use Rattle.rx_clauses.specs.Reader.{turns, behind, start, word_start, sending_start, simple, are_none, no_when, ended}
-use Rattle.rx_clauses.specs.Forms.{is_block, without_last, clause_form, instruction_form, block_form, choice_form, else_form, select_form, whens_form, when_form, otherwise_form, group_form, loop_form, clauses_form}
-use Rattle.rx_clauses.proofs.Sure.{sure-then, sure-some, as-read, so-read, refused, found}
+use Rattle.rx_clauses.specs.Starts.{Assigned, assignment, assigned_at, send_assign, message}
+use Rattle.rx_clauses.specs.Reader.{turns, behind, start, word_start, sending_start, by_start, as_clause, line_of, simple, are_none, unended, no_when, ended}
+use Rattle.rx_clauses.specs.Forms.{is_block, block_end, without_last, clause_form, instruction_form, block_form, choice_form, else_form, select_form, whens_form, when_form, otherwise_form, group_form, loop_form, clauses_form}
+use Rattle.rx_clauses.proofs.Sure.{sure-then, sure-some, as-read, so-read, refused, outcome, found}
 use Rattle.rx_clauses.proofs.Words.{end-shorter, symbol-shorter, word-shorter}
 use Rattle.rx_clauses.proofs.Opens.{expression-sure, fits-shorter}
 use Rattle.rx_clauses.proofs.ClausesLaw.{then-shorter}
@@ -104,6 +106,92 @@ without_last_is (loop ∷ (next ∷ loops)) control = ap (λ l. loop ∷ l) (wit
 pub popped : (old new : Loops) (result : Option (Option Name)) → MatchOption result ((old ≡ []) × (new ≡ [])) (λ last. old ≡ new ++ last ∷ []) → new ≡ without_last old
 popped old new None is = is.1 ∙ sym (ap (λ l. without_last l) is.0)
 popped old new (Some last) is = sym (ap (λ l. without_last l) is ∙ without_last_is new last)
+
+-- ---- clauses, by what they begin with
+
+abbrev is_sending : Start → Bool
+is_sending (b.Sending receiver part) = true
+is_sending _ = false
+
+no-sending : {X : Type 0} → true ≡ false → X
+no-sending is = cc
+
+started-same : (tokens rest : Tokens) (begun : Start) → start tokens ≡ (begun, rest) → is_sending begun ≡ false → rest ≡ tokens
+unfolding start
+started-same [] rest begun is isnt = sym (ap (λ (p : Start × Tokens). p.1) is)
+started-same (t ∷ tokens) rest begun is isnt = go (begins_assignment (t ∷ tokens)) (assigned_at (t ∷ tokens)) is
+  where
+    go : (test : Bool) (found : Option (Assigned × Tokens))
+        → (if test then (b.Assignment, t ∷ tokens) else sending_start found (if begins_label (t ∷ tokens) then b.Label else word_start (keyword_of t.kind)) (t ∷ tokens)) ≡ (begun, rest)
+        → rest ≡ t ∷ tokens
+    go true found same = sym (ap (λ (p : Start × Tokens). p.1) same)
+    go false None same = sym (ap (λ (p : Start × Tokens). p.1) same)
+    go false (Some found) same = no-sending (ap (λ (p : Start × Tokens). is_sending p.0) same ∙ isnt)
+
+by : (loops : Loops) (room : ℕ) (tokens rest : Tokens) (begun : Start) → start tokens ≡ (begun, rest)
+    → clause_form loops room tokens ≡ by_start (λ keyword. instruction_form loops room keyword tokens) tokens begun rest
+by loops room tokens rest begun is =
+    clause_next loops room tokens ∙ ap (λ (p : Start × Tokens). by_start (λ keyword. instruction_form loops room keyword tokens) tokens p.0 p.1) is
+
+pub assign_ok : (loops : Loops) (room : ℕ) (tokens rest behind : Tokens) (one : Simple) → start tokens ≡ (b.Assignment, rest) → assignment rest ≡ Ok (one, behind)
+    → clause_form loops room tokens ≡ Ok (clause (line_of tokens) (x.Simple one), behind)
+assign_ok loops room tokens rest behind one is p =
+    by loops room tokens rest b.Assignment is ∙ ap (λ o. as_clause (line_of tokens) o) (ap (λ ts. assignment ts) (sym (started-same tokens rest b.Assignment is refl)) ∙ p)
+
+pub assign_bad : (loops : Loops) (room : ℕ) (tokens rest : Tokens) (fault : Fault) → start tokens ≡ (b.Assignment, rest) → assignment rest ≡ Err fault
+    → clause_form loops room tokens ≡ Err fault
+assign_bad loops room tokens rest fault is p =
+    by loops room tokens rest b.Assignment is ∙ ap (λ o. as_clause (line_of tokens) o) (ap (λ ts. assignment ts) (sym (started-same tokens rest b.Assignment is refl)) ∙ p)
+
+pub send_ok : (loops : Loops) (room : ℕ) (tokens rest behind : Tokens) (receiver : Expr) (part : SendPart) (one : Simple) → start tokens ≡ (b.Sending receiver part, rest)
+    → send_assign (receiver, part) rest ≡ Ok (one, behind) → clause_form loops room tokens ≡ Ok (clause (line_of tokens) (x.Simple one), behind)
+send_ok loops room tokens rest behind receiver part one is p =
+    by loops room tokens rest (b.Sending receiver part) is ∙ ap (λ o. as_clause (line_of tokens) o) p
+
+pub send_bad : (loops : Loops) (room : ℕ) (tokens rest : Tokens) (receiver : Expr) (part : SendPart) (fault : Fault) → start tokens ≡ (b.Sending receiver part, rest)
+    → send_assign (receiver, part) rest ≡ Err fault → clause_form loops room tokens ≡ Err fault
+send_bad loops room tokens rest receiver part fault is p =
+    by loops room tokens rest (b.Sending receiver part) is ∙ ap (λ o. as_clause (line_of tokens) o) p
+
+pub label_bad : (loops : Loops) (room : ℕ) (tokens rest : Tokens) (fault : Fault) → start tokens ≡ (b.Label, rest) → fault ≡ lack 47 rest
+    → clause_form loops room tokens ≡ Err fault
+label_bad loops room tokens rest fault is same =
+    by loops room tokens rest b.Label is ∙ ap (λ f. Err f) (ap (λ ts. lack 47 ts) (sym (started-same tokens rest b.Label is refl)) ∙ sym same)
+
+pub word_ok : (loops : Loops) (room : ℕ) (tokens rest behind : Tokens) (keyword : Keyword) (kind : ClauseKind) → start tokens ≡ (b.Word keyword, rest)
+    → instruction_form loops room keyword rest ≡ Ok (kind, behind) → clause_form loops room tokens ≡ Ok (clause (line_of tokens) kind, behind)
+word_ok loops room tokens rest behind keyword kind is p =
+    by loops room tokens rest (b.Word keyword) is
+    ∙ ap (λ o. and_then o (λ kind rest. outcome (clause (line_of tokens) kind) rest))
+    (ap (λ ts. instruction_form loops room keyword ts) (sym (started-same tokens rest (b.Word keyword) is refl)) ∙ p)
+
+pub word_bad : (loops : Loops) (room : ℕ) (tokens rest : Tokens) (keyword : Keyword) (fault : Fault) → start tokens ≡ (b.Word keyword, rest)
+    → instruction_form loops room keyword rest ≡ Err fault → clause_form loops room tokens ≡ Err fault
+word_bad loops room tokens rest keyword fault is p =
+    by loops room tokens rest (b.Word keyword) is
+    ∙ ap (λ o. and_then o (λ kind rest. outcome (clause (line_of tokens) kind) rest))
+    (ap (λ ts. instruction_form loops room keyword ts) (sym (started-same tokens rest (b.Word keyword) is refl)) ∙ p)
+
+pub ends_bad : (loops : Loops) (room : ℕ) (tokens rest : Tokens) (fault : Fault) → start tokens ≡ (b.Other, rest) → ends_body rest ≡ true → fault ≡ lack 14 rest
+    → clause_form loops room tokens ≡ Err fault
+ends_bad loops room tokens rest fault is ends same =
+    let e = sym (started-same tokens rest b.Other is refl) in
+    let here : ends_body tokens ≡ true = ap (λ ts. ends_body ts) e ∙ ends in
+    by loops room tokens rest b.Other is ∙ rw here refl ∙ ap (λ f. Err f) (ap (λ ts. lack 14 ts) e ∙ sym same)
+
+pub message_ok : (loops : Loops) (room : ℕ) (tokens rest behind : Tokens) (one : Simple) → start tokens ≡ (b.Other, rest) → ends_body rest ≡ false
+    → message rest ≡ Ok (one, behind) → clause_form loops room tokens ≡ Ok (clause (line_of tokens) (x.Simple one), behind)
+message_ok loops room tokens rest behind one is isnt p =
+    let e = sym (started-same tokens rest b.Other is refl) in
+    let here : ends_body tokens ≡ false = ap (λ ts. ends_body ts) e ∙ isnt in
+    by loops room tokens rest b.Other is ∙ rw here (ap (λ o. as_clause (line_of tokens) o) (ap (λ ts. message ts) e ∙ p))
+
+pub message_bad : (loops : Loops) (room : ℕ) (tokens rest : Tokens) (fault : Fault) → start tokens ≡ (b.Other, rest) → ends_body rest ≡ false
+    → message rest ≡ Err fault → clause_form loops room tokens ≡ Err fault
+message_bad loops room tokens rest fault is isnt p =
+    let e = sym (started-same tokens rest b.Other is refl) in
+    let here : ends_body tokens ≡ false = ap (λ ts. ends_body ts) e ∙ isnt in
+    by loops room tokens rest b.Other is ∙ rw here (ap (λ o. as_clause (line_of tokens) o) (ap (λ ts. message ts) e ∙ p))
 
 -- ---- instructions
 
@@ -193,10 +281,41 @@ pub select_bad_other : (loops : Loops) (room : ℕ) (tokens inside after : Token
     → whens_form loops room inside ≡ Ok (list, after) → (list ≡ [] → ⊥) → otherwise_form loops room after ≡ Err fault → select_form loops room tokens ≡ Err fault
 select_bad_other loops room tokens inside after list fault p q some r = rw (select_next loops room tokens, p, q, some-whens list some, r) refl
 
+ended-ok : (number : ℕ) (control : Option Name) (kind : ClauseKind) (tokens rest : Tokens) (u : Unit {0}) → block_end number control tokens ≡ Ok (u, rest)
+    → ended number control kind tokens ≡ Ok (kind, rest)
+ended-ok number control kind tokens rest u is = go (behind_block control tokens) is
+  where
+    go : (found : Option Tokens) → on_some found (Err (lack (unended number tokens) tokens)) (λ rest. Ok (tt, rest)) ≡ Ok (u, rest)
+        → on_some found (Err (lack (unended number tokens) tokens)) (λ rest. Ok (kind, rest)) ≡ Ok (kind, rest)
+    go None same = cc
+    go (Some others) same = ap (λ (z : Outcome (Unit {0})). and_then z (λ one rest. outcome kind rest)) same
+
+ended-bad : (number : ℕ) (control : Option Name) (kind : ClauseKind) (tokens : Tokens) (fault : Fault) → block_end number control tokens ≡ Err fault
+    → ended number control kind tokens ≡ Err fault
+ended-bad number control kind tokens fault is = go (behind_block control tokens) is
+  where
+    go : (found : Option Tokens)
+        → (let r : Outcome (Unit {0}) = on_some found (Err (lack (unended number tokens) tokens)) (λ rest. Ok (tt, rest)) in r ≡ Err fault)
+        → (let r : Outcome ClauseKind = on_some found (Err (lack (unended number tokens) tokens)) (λ rest. Ok (kind, rest)) in r ≡ Err fault)
+    go None same = ap (λ (z : Outcome (Unit {0})). and_then z (λ one rest. outcome kind rest)) same
+    go (Some others) same = cc
+
 pub select_ends : (loops : Loops) (room : ℕ) (tokens inside after others : Tokens) (list : List When) (other : Option (List Clause)) → behind_end tokens ≡ Some inside
     → whens_form loops room inside ≡ Ok (list, after) → (list ≡ [] → ⊥) → otherwise_form loops room after ≡ Ok (other, others)
     → select_form loops room tokens ≡ ended 7 None (x.Select list other) others
 select_ends loops room tokens inside after others list other p q some r = rw (select_next loops room tokens, p, q, some-whens list some, r) refl
+
+pub select_ok : (loops : Loops) (room : ℕ) (tokens inside after others rest : Tokens) (list : List When) (other : Option (List Clause)) (u : Unit {0})
+    → behind_end tokens ≡ Some inside → whens_form loops room inside ≡ Ok (list, after) → (list ≡ [] → ⊥)
+    → otherwise_form loops room after ≡ Ok (other, others) → block_end 7 None others ≡ Ok (u, rest) → select_form loops room tokens ≡ Ok (x.Select list other, rest)
+select_ok loops room tokens inside after others rest list other u p q some r t =
+    select_ends loops room tokens inside after others list other p q some r ∙ ended-ok 7 None (x.Select list other) others rest u t
+
+pub select_bad_end : (loops : Loops) (room : ℕ) (tokens inside after others : Tokens) (list : List When) (other : Option (List Clause)) (fault : Fault)
+    → behind_end tokens ≡ Some inside → whens_form loops room inside ≡ Ok (list, after) → (list ≡ [] → ⊥)
+    → otherwise_form loops room after ≡ Ok (other, others) → block_end 7 None others ≡ Err fault → select_form loops room tokens ≡ Err fault
+select_bad_end loops room tokens inside after others list other fault p q some r t =
+    select_ends loops room tokens inside after others list other p q some r ∙ ended-bad 7 None (x.Select list other) others fault t
 
 pub whens_end : (loops : Loops) (room : ℕ) (list : List When) (tokens : Tokens) → behind_symbol (codes "WHEN") tokens ≡ None
     → prepended list (whens_form loops room tokens) ≡ Ok (list, tokens)
@@ -248,6 +367,14 @@ pub group_ends : (loops : Loops) (room : ℕ) (inside others : Tokens) (list : L
     → group_form loops room inside ≡ ended 10 None (x.Group list) others
 group_ends loops room inside others list p = rw (group_next loops room inside, p) refl
 
+pub group_ok : (loops : Loops) (room : ℕ) (inside others rest : Tokens) (list : List Clause) (u : Unit {0}) → clauses_form loops room inside ≡ Ok (list, others)
+    → block_end 10 None others ≡ Ok (u, rest) → group_form loops room inside ≡ Ok (x.Group list, rest)
+group_ok loops room inside others rest list u p t = group_ends loops room inside others list p ∙ ended-ok 10 None (x.Group list) others rest u t
+
+pub group_bad_end : (loops : Loops) (room : ℕ) (inside others : Tokens) (list : List Clause) (fault : Fault) → clauses_form loops room inside ≡ Ok (list, others)
+    → block_end 10 None others ≡ Err fault → group_form loops room inside ≡ Err fault
+group_bad_end loops room inside others list fault p t = group_ends loops room inside others list p ∙ ended-bad 10 None (x.Group list) others fault t
+
 pub group_bad : (loops : Loops) (room : ℕ) (inside : Tokens) (fault : Fault) → clauses_form loops room inside ≡ Err fault → group_form loops room inside ≡ Err fault
 group_bad loops room inside fault p = rw (group_next loops room inside, p) refl
 
@@ -255,6 +382,18 @@ pub loop_ends : (loops : Loops) (room : ℕ) (tokens after inside others : Token
     → header tokens ≡ Ok (head, after) → test after ≡ Ok (tested, inside) → clauses_form (loops ++ control_of head ∷ []) room inside ≡ Ok (list, others)
     → loop_form loops room tokens ≡ ended 10 (control_of head) (x.Loop head tested list) others
 loop_ends loops room tokens after inside others head tested list p q r = rw (loop_next loops room tokens, p, q, r) refl
+
+pub loop_ok : (loops : Loops) (room : ℕ) (tokens after inside others rest : Tokens) (head : Header) (tested : Test) (list : List Clause) (u : Unit {0})
+    → header tokens ≡ Ok (head, after) → test after ≡ Ok (tested, inside) → clauses_form (loops ++ control_of head ∷ []) room inside ≡ Ok (list, others)
+    → block_end 10 (control_of head) others ≡ Ok (u, rest) → loop_form loops room tokens ≡ Ok (x.Loop head tested list, rest)
+loop_ok loops room tokens after inside others rest head tested list u p q r t =
+    loop_ends loops room tokens after inside others head tested list p q r ∙ ended-ok 10 (control_of head) (x.Loop head tested list) others rest u t
+
+pub loop_bad_end : (loops : Loops) (room : ℕ) (tokens after inside others : Tokens) (head : Header) (tested : Test) (list : List Clause) (fault : Fault)
+    → header tokens ≡ Ok (head, after) → test after ≡ Ok (tested, inside) → clauses_form (loops ++ control_of head ∷ []) room inside ≡ Ok (list, others)
+    → block_end 10 (control_of head) others ≡ Err fault → loop_form loops room tokens ≡ Err fault
+loop_bad_end loops room tokens after inside others head tested list fault p q r t =
+    loop_ends loops room tokens after inside others head tested list p q r ∙ ended-bad 10 (control_of head) (x.Loop head tested list) others fault t
 
 pub loop_bad_header : (loops : Loops) (room : ℕ) (tokens : Tokens) (fault : Fault) → header tokens ≡ Err fault → loop_form loops room tokens ≡ Err fault
 loop_bad_header loops room tokens fault p = rw (loop_next loops room tokens, p) refl
@@ -282,7 +421,7 @@ clauses_bad loops room list tokens fault p q = rw (clauses_next loops room token
 
 pub ruleset meants = (meant_ok, meant_bad)
 
-pub ruleset clauses = (clause_next, start_same)
+pub ruleset clauses = (assign_ok, assign_bad, send_ok, send_bad, label_bad, word_ok, word_bad, ends_bad, message_ok, message_bad, start_same)
 
 pub ruleset instructions = (simple_ok, simple_bad, procedure_next, expose_next, deep_next, block_next, behind_fewer)
 
@@ -290,7 +429,7 @@ pub ruleset choices = (choice_ok, choice_bad_test, choice_no_then, choice_bad_fi
 
 pub ruleset elses = (else_none, else_ok, else_bad, else_less)
 
-pub ruleset selects = (select_open, select_bad_whens, select_none, select_bad_other, select_ends, end_less, whens_less)
+pub ruleset selects = (select_open, select_bad_whens, select_none, select_bad_other, select_ok, select_bad_end, end_less, whens_less)
 
 pub ruleset when_lists = (prepended_start, whens_end, whens_more, whens_bad, when_less, word_less)
 
@@ -298,8 +437,8 @@ pub ruleset whens = (expression_less, then_less)
 
 pub ruleset others = (otherwise_none, otherwise_ok, otherwise_bad, otherwise_less)
 
-pub ruleset groups = (group_ends, group_bad)
+pub ruleset groups = (group_ok, group_bad_end, group_bad)
 
-pub ruleset repetitions = (loop_ends, loop_bad_header, loop_bad_test, loop_bad_clauses, header_less, test_less, without_last_is)
+pub ruleset repetitions = (loop_ok, loop_bad_end, loop_bad_header, loop_bad_test, loop_bad_clauses, header_less, test_less, without_last_is)
 
 pub ruleset clause_lists = (prepended_start, clauses_end, clauses_more, clauses_bad, clause_less)

@@ -3,7 +3,7 @@ use Rattle.std.specs.Prelude.{ℕ, zero, suc, ◌+◌, Bool, true, false, if◌t
 use Rattle.rx_tree.specs.declared.name.Name.{Name}
 use Rattle.rx_tree.specs.declared.stops.Stops.TheVariants as s
 use Rattle.rx_tree.specs.Operators.{Tokens}
-use Rattle.rx_exprs.specs.Reader.{Outcome, and_then, on_some, refusal, expression}
+use Rattle.rx_exprs.specs.Reader.{Outcome, and_then, on_some, lack, refusal, expression}
 use Rattle.rx_clause_tree.specs.declared.instruction.Forward.{Forward}
 use Rattle.rx_clause_tree.specs.declared.loops.Bound.{Bound}
 use Rattle.rx_clause_tree.specs.declared.template.TemplatePart.{TemplatePart}
@@ -11,7 +11,7 @@ use Rattle.rx_clause_tree.specs.declared.clause.Clause.{Clause}
 use Rattle.rx_clause_tree.specs.declared.clause.ClauseKind.{ClauseKind}
 use Rattle.rx_clause_tree.specs.declared.clause.When.{When}
 use Rattle.rx_clause_tree.specs.ClauseWords.{variable_of, behind_end}
-use Rattle.rx_clause_tree.specs.Loops.{Loops, is_name}
+use Rattle.rx_clause_tree.specs.Loops.{Loops, is_name, behind_block}
 use Rattle.rx_clause_tree.specs.Clauses.{behind_then, when}
 use Rattle.rx_clause_tree.specs.declared.clause.Before.{Before}
 use Rattle.rx_clauses.specs.declared.keyword.Keyword.{Keyword}
@@ -20,7 +20,7 @@ use Rattle.rx_clauses.specs.Parts.{separated}
 use Rattle.rx_clauses.specs.Looping.{bounds}
 use Rattle.rx_clauses.specs.Forwarding.{options}
 use Rattle.rx_clauses.specs.Parsing.{parts}
-use Rattle.rx_clauses.specs.Reader.{turns, read, instruction, choice, else_clause, select, whens, otherwise, group, loop, clauses, behind, body_clauses}
+use Rattle.rx_clauses.specs.Reader.{turns, read, instruction, choice, else_clause, select, whens, otherwise, group, loop, clauses, behind, unended, body_clauses}
 
 -- ---- lists in clauses
 
@@ -75,6 +75,10 @@ when_form loops room tokens =
     and_then (expression s.Then tokens) (λ test others.
     on_some (behind_then others) (Err (refusal 18 others)) (λ inside.
     and_then (clause_form loops room inside) (λ chosen rest. Ok (when test chosen, rest))))
+
+-- the end of a block
+abbrev pub block_end : ℕ → Option Name → Tokens → Outcome (Unit {0})
+block_end number control tokens = on_some (behind_block control tokens) (Err (lack (unended number tokens) tokens)) (λ rest. Ok (tt, rest))
 
 -- whether an instruction is a block
 abbrev pub is_block : Keyword → Bool
