@@ -2,20 +2,13 @@
 //!
 //! Of `run` and a source it tells the status, the number of steps, the output and the report, and of `picks` and a source
 //! which activities took the steps. Of `words` and the words of a command line it tells the same as of `run`; the only file
-//! is `case`, which has `say 'Hello'`. Of `scan` and a source it tells how deep its brackets are and its tokens, or the
-//! line and number of its refusal. Of `expr`, the name of a set of stop words, the place of a token and a source it tells
-//! the expression that begins there and where it ends, or the number and place of its refusal. In sources and answers `\n`,
-//! `\r`, `\t` and `\\` are one byte, as in the language that this is written in, and `\xFF` is the byte of that number. Any
-//! other line is a heading, and told as it stands.
+//! is `case`, which has `say 'Hello'`. In sources and answers `\n`, `\r`, `\t` and `\\` are one byte, as in the language that
+//! this is written in, and `\xFF` is the byte of that number. Any other line is a heading, and told as it stands.
 #![tactic(auto)]
 
-mod exprs;
 mod running;
-mod tokens;
 
-use crate::exprs::tell_case;
 use crate::running::{call, tell_call, tell_picks};
-use crate::tokens::tell_scan;
 use rx_escape::unescape;
 use std::alloc::AllocError;
 use std::io;
@@ -36,12 +29,6 @@ fn tell(rt: &(impl Threads + Wait + Sync + AllocGlobal), line: &str) -> Result<S
     if let Some(words) = line.strip_prefix("words") {
         let source = b"say 'Hello'".to_vec(alloc)?;
         return tell_call(alloc, &call(rt, words, source)?);
-    }
-    if let Some(source) = line.strip_prefix("scan ") {
-        return tell_scan(alloc, unescape(alloc, source.as_bytes())?.as_slice());
-    }
-    if let Some(case) = line.strip_prefix("expr ") {
-        return tell_case(alloc, case);
     }
     String::from_str(alloc, line)
 }

@@ -12,6 +12,8 @@ use Rattle.rx_clause_tree.specs.declared.simple.Simple.TheVariants as c
 use Rattle.rx_clause_tree.specs.declared.clause.Before.{Before}
 use Rattle.rx_clause_tree.specs.declared.clause.Before.TheVariants.{Nothing, Labels, Clauses}
 use Rattle.rx_clause_tree.specs.declared.clause.Clause.{Clause}
+use Rattle.rx_clause_tree.specs.declared.clause.ClauseKind.TheVariants as x
+use Rattle.rx_clause_tree.specs.Clauses.{clause}
 use Rattle.rx_clause_tree.specs.ClauseWords.{symbol_of, behind_end, skip}
 use Rattle.rx_clause_tree.specs.Bodies.{most_blocks, ends_body}
 use Rattle.rx_clauses.specs.declared.keyword.Keyword.TheVariants as w
@@ -122,5 +124,41 @@ at_form tokens = refl
 pub body_of : (tokens : Tokens) → body tokens ≡ and_then (body_form Nothing tokens) (λ clauses rest. Ok (in_body clauses, rest))
 unfolding body body_form
 body_of tokens = refl
+
+-- ---- a clause of a body, by what it begins with
+
+begun-is : (before : Before) (tokens rest : Tokens) (begun : Start) → start tokens ≡ (begun, rest)
+    → body_clause before tokens (start tokens).0 ≡ body_clause before tokens begun
+begun-is before tokens rest begun is = ap (λ (p : Start × Tokens). body_clause before tokens p.0) is
+
+pub label_ok : (before : Before) (tokens rest behind : Tokens) (one : Simple) → start tokens ≡ (b.Label, rest) → label tokens ≡ Ok (one, behind)
+    → body_clause before tokens (start tokens).0 ≡ Ok ((clause (r.line_of tokens) (x.Simple one), Labels), behind)
+label_ok before tokens rest others one is p = begun-is before tokens rest b.Label is ∙ ap (λ o. after Labels (as_clause (r.line_of tokens) o)) p
+
+pub label_bad : (before : Before) (tokens rest : Tokens) (fault : Fault) → start tokens ≡ (b.Label, rest) → label tokens ≡ Err fault
+    → body_clause before tokens (start tokens).0 ≡ Err fault
+label_bad before tokens rest fault is p = begun-is before tokens rest b.Label is ∙ ap (λ o. after Labels (as_clause (r.line_of tokens) o)) p
+
+pub expose_ok : (before : Before) (tokens rest behind : Tokens) (one : Simple) → start tokens ≡ (b.Word w.Expose, rest)
+    → expose before tokens (r.behind tokens) ≡ Ok (one, behind)
+    → body_clause before tokens (start tokens).0 ≡ Ok ((clause (r.line_of tokens) (x.Simple one), Clauses), behind)
+expose_ok before tokens rest others one is p = begun-is before tokens rest (b.Word w.Expose) is ∙ ap (λ o. after Clauses (as_clause (r.line_of tokens) o)) p
+
+pub expose_bad : (before : Before) (tokens rest : Tokens) (fault : Fault) → start tokens ≡ (b.Word w.Expose, rest)
+    → expose before tokens (r.behind tokens) ≡ Err fault → body_clause before tokens (start tokens).0 ≡ Err fault
+expose_bad before tokens rest fault is p = begun-is before tokens rest (b.Word w.Expose) is ∙ ap (λ o. after Clauses (as_clause (r.line_of tokens) o)) p
+
+pub procedure_ok : (before : Before) (tokens rest behind : Tokens) (one : Simple) → start tokens ≡ (b.Word w.Procedure, rest)
+    → procedure before tokens (r.behind tokens) ≡ Ok (one, behind)
+    → body_clause before tokens (start tokens).0 ≡ Ok ((clause (r.line_of tokens) (x.Simple one), Clauses), behind)
+procedure_ok before tokens rest others one is p =
+    begun-is before tokens rest (b.Word w.Procedure) is ∙ ap (λ o. after Clauses (as_clause (r.line_of tokens) o)) p
+
+pub procedure_bad : (before : Before) (tokens rest : Tokens) (fault : Fault) → start tokens ≡ (b.Word w.Procedure, rest)
+    → procedure before tokens (r.behind tokens) ≡ Err fault → body_clause before tokens (start tokens).0 ≡ Err fault
+procedure_bad before tokens rest fault is p =
+    begun-is before tokens rest (b.Word w.Procedure) is ∙ ap (λ o. after Clauses (as_clause (r.line_of tokens) o)) p
+
+pub ruleset body_ways = (at_form, label_ok, label_bad, expose_ok, expose_bad, procedure_ok, procedure_bad)
 
 pub ruleset bodies = (prepended_start, body_end, body_more, body_bad, body_less)

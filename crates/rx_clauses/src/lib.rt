@@ -1,15 +1,16 @@
-//! The parser of clauses, so far of those that stand in others. The reader of whole bodies is a definition, and its law: a
-//! body fits the tokens exactly where it reads it.
+//! The parser of clauses and bodies: a body exactly where one fits the tokens.
 #![tactic(auto)]
 
 mod assignments;
 mod blocks;
+mod bodies;
 mod forwards;
 mod keyword;
 mod laws;
 mod loops;
 mod names;
 mod numbers;
+mod parser;
 mod parts;
 mod plain;
 mod simple;
@@ -18,7 +19,8 @@ mod templates;
 mod tokens;
 mod traps;
 
-pub use blocks::clause;
+pub use bodies::MOST_BLOCKS;
 pub use keyword::{Keyword, Word};
 pub use laws::clause_laws;
+pub use parser::parse_clauses;
 pub use start::Start;

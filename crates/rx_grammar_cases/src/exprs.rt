@@ -2,15 +2,15 @@
 ghost use Rattle.std.specs.Prelude.{◌≤◌, ◌^◌, ◌<◌, length};
 ghost use Rattle.rx_scan.specs.Depth.{bracket_depth};
 
+use crate::sources::{Wanted, tell_source};
 use crate::tokens::show_parts;
 use rx_escape::{escape, unescape};
 use rx_exprs::{DEEPEST, ParseRefused, Stops, parse_expr};
-use rx_scan::{LONGEST_SOURCE, ScanRefused, bracket_depth, scan};
 use rx_tree::{Expr, Name, Oper, SendPart, Token, Value};
 use std::alloc::{AllocError, Global};
 
-// A text between quotes, with each quote in it doubled.
-fn show_quoted(shown: &mut Vec<u8>, text: &[u8]) -> Result<(), AllocError> {
+/// A text between quotes, with each quote in it doubled.
+pub fn show_quoted(shown: &mut Vec<u8>, text: &[u8]) -> Result<(), AllocError> {
     shown.push(b'\'')?;
     for byte in text {
         if *byte == b'\'' {
@@ -22,8 +22,8 @@ fn show_quoted(shown: &mut Vec<u8>, text: &[u8]) -> Result<(), AllocError> {
     Ok(())
 }
 
-// A name as it is written, but for the parts of a tail.
-fn show_name(shown: &mut Vec<u8>, name: &Name) -> Result<(), AllocError> {
+/// A name as it is written, but for the parts of a tail.
+pub fn show_name(shown: &mut Vec<u8>, name: &Name) -> Result<(), AllocError> {
     match name {
         Name::Simple(name) | Name::Stem(name) => shown.extend_from_slice(name.bytes()),
         Name::Compound(stem, tail) => {
@@ -38,9 +38,9 @@ fn show_oper(alloc: Global, shown: &mut Vec<u8>, oper: Oper) -> Result<(), Alloc
     shown.extend_from_slice(name.as_bytes())
 }
 
-// Arguments with commas between them; one that is omitted is a hyphen.
+/// Arguments with commas between them; one that is omitted is a hyphen.
 #[cycle(show)]
-fn show_args(
+pub fn show_args(
     alloc: Global,
     shown: &mut Vec<u8>,
     args: &[Option<Expr>],
@@ -62,9 +62,9 @@ fn show_args(
     Ok(())
 }
 
-// A message: its name between quotes, then the class that its search begins at, and then its arguments, if it has some.
+/// A message: its name between quotes, then the class that its search begins at, and then its arguments, if it has some.
 #[cycle(show)]
-fn show_message(alloc: Global, shown: &mut Vec<u8>, part: &SendPart) -> Result<(), AllocError> {
+pub fn show_message(alloc: Global, shown: &mut Vec<u8>, part: &SendPart) -> Result<(), AllocError> {
     if part.bracket {
         return show_args(alloc, shown, part.args.as_slice(), (b'[', b']'));
     }
@@ -104,10 +104,10 @@ fn show_messages(alloc: Global, shown: &mut Vec<u8>, parts: &[SendPart]) -> Resu
     Ok(())
 }
 
-// An expression: a constant between quotes, a name, a prefix in square brackets, a chain in braces, a message term between
-// `<` and `>`, a group in parentheses, and a function as it is written. Operators have their names.
+/// An expression: a constant between quotes, a name, a prefix in square brackets, a chain in braces, a message term between
+/// `<` and `>`, a group in parentheses, and a function as it is written. Operators have their names.
 #[cycle(show)]
-fn show_expr(alloc: Global, shown: &mut Vec<u8>, expr: &Expr) -> Result<(), AllocError> {
+pub fn show_expr(alloc: Global, shown: &mut Vec<u8>, expr: &Expr) -> Result<(), AllocError> {
     match expr {
         Expr::Const(Value::Str(text)) => show_quoted(shown, text.bytes()),
         Expr::Const(Value::Ref(_)) => shown.extend_from_slice(b"#"),
@@ -151,8 +151,8 @@ fn show_expr(alloc: Global, shown: &mut Vec<u8>, expr: &Expr) -> Result<(), Allo
     }
 }
 
-// The expression of some tokens as text, and the place where it ends.
-fn tell_parsed(
+/// The expression of some tokens as text, and the place where it ends; or why there is none.
+pub fn tell_expr_at(
     alloc: Global,
     tokens: &[Token],
     from: u32,
@@ -176,23 +176,6 @@ fn tell_parsed(
     }
 }
 
-// The expression that begins at a token of a source, as text, or why there is none.
-fn tell_expr(alloc: Global, source: &[u8], from: u32, stops: Stops) -> Result<String, AllocError> {
-    if source.len() > LONGEST_SOURCE {
-        return format!(in alloc; "too long");
-    }
-    match scan(alloc, source) {
-        Ok(tokens) => {
-            if bracket_depth(tokens.as_slice()) > DEEPEST {
-                return format!(in alloc; "too deep");
-            }
-            tell_parsed(alloc, tokens.as_slice(), from, stops)
-        }
-        Err(ScanRefused::Bad { line, number }) => format!(in alloc; "line {line} error {number}"),
-        Err(ScanRefused::OutOfMemory) => Err(AllocError),
-    }
-}
-
 // The stop words of a name.
 fn stops_of(name: &str) -> Option<Stops> {
     let sets = [
@@ -211,7 +194,7 @@ fn stops_of(name: &str) -> Option<Stops> {
 }
 
 /// What a case comes to: the name of a set of stop words, the place of a token, and a source.
-pub fn tell_case(alloc: Global, case: &str) -> Result<String, AllocError> {
+pub fn tell_expr(alloc: Global, case: &str) -> Result<String, AllocError> {
     let Some((name, rest)) = case.split_once(' ') else {
         return format!(in alloc; "no case");
     };
@@ -222,5 +205,5 @@ pub fn tell_case(alloc: Global, case: &str) -> Result<String, AllocError> {
         return format!(in alloc; "no case");
     };
     let source = unescape(alloc, source.as_bytes())?;
-    tell_expr(alloc, source.as_slice(), from, stops)
+    tell_source(alloc, source.as_slice(), Wanted::Expr(from, stops))
 }
