@@ -22,5 +22,6 @@ mod traps;
 pub use bodies::MOST_BLOCKS;
 pub use keyword::{Keyword, Word};
 pub use laws::clause_laws;
-pub use parser::parse_clauses;
+pub use parser::{parse_clauses, read_body};
 pub use start::Start;
+pub use tokens::{eat_end, eat_word, is_word, symbol_of, to_end, variable_of};
