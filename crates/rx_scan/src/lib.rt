@@ -13,3 +13,4 @@ mod symbol;
 
 pub use depth::bracket_depth;
 pub use scanner::{LONGEST_SOURCE, ScanRefused, at_most_one_spelling, scan};
+pub use symbol::read_symbol;

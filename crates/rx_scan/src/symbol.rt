@@ -115,7 +115,7 @@ fn symbol_length(bytes: &[u8]) -> usize
         .count()
 }
 
-/// The token of the symbol at the front, and the bytes behind it.
+/// The token of the symbol at the front, and the bytes behind it; or want of memory. Letters are taken in upper case.
 #[tactic(auto, using(crate::proofs::Prefixes::lengths))]
 pub fn read_symbol(alloc: Global, bytes: &[u8]) -> Result<(TokenKind, &[u8]), OutOfMemory>
     requires { length bytes.now ≤ Text.LONGEST }
