@@ -1,4 +1,4 @@
-//! The trees of clauses, and which tokens clauses and bodies are written with.
+//! The trees of clauses and packages, and which tokens clauses and bodies are written with.
 //!
 //! A tree is plain data: contracts see a text as its bytes and a list as a list. The relation between tokens and trees
 //! stands in `specs/`, a file a family of clauses: `Bodies.antt` has the whole.
@@ -8,6 +8,7 @@ mod clause;
 mod crossing;
 mod instruction;
 mod loops;
+mod package;
 mod simple;
 mod template;
 
@@ -18,5 +19,6 @@ pub use instruction::{
     share_names,
 };
 pub use loops::{Bound, Header, Test};
+pub use package::Package;
 pub use simple::Simple;
 pub use template::{Distance, Parse, ParseFrom, Template, TemplatePart};

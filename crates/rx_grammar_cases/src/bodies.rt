@@ -58,9 +58,13 @@ fn show_test(alloc: Global, shown: &mut Vec<u8>, test: &Test) -> Result<(), Allo
     }
 }
 
-// Clauses between `<` and `>`, with semicolons between them.
+/// Clauses between `<` and `>`, with semicolons between them.
 #[cycle(show)]
-fn show_clauses(alloc: Global, shown: &mut Vec<u8>, clauses: &[Clause]) -> Result<(), AllocError> {
+pub fn show_clauses(
+    alloc: Global,
+    shown: &mut Vec<u8>,
+    clauses: &[Clause],
+) -> Result<(), AllocError> {
     show_text(shown, "<")?;
     let mut first = true;
     for clause in clauses {

@@ -1,6 +1,7 @@
 // What is read of the tokens of a source.
 use crate::bodies::tell_body_at;
 use crate::exprs::tell_expr_at;
+use crate::packages::tell_package_at;
 use rx_exprs::{DEEPEST, Stops};
 use rx_scan::{LONGEST_SOURCE, ScanRefused, bracket_depth, scan};
 use std::alloc::{AllocError, Global};
@@ -12,6 +13,8 @@ pub enum Wanted {
     Expr(u32, Stops),
     /// The body, with its tree or without.
     Body(u32, bool),
+    /// The main body and what the directives make.
+    Package,
 }
 
 /// What is asked for of a source as text, or why there is none.
@@ -32,5 +35,6 @@ pub fn tell_source(alloc: Global, source: &[u8], wanted: Wanted) -> Result<Strin
     match wanted {
         Wanted::Expr(from, stops) => tell_expr_at(alloc, tokens.as_slice(), from, stops),
         Wanted::Body(from, whole) => tell_body_at(alloc, tokens.as_slice(), from, whole),
+        Wanted::Package => tell_package_at(alloc, tokens.as_slice()),
     }
 }

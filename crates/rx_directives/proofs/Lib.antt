@@ -1,0 +1,5 @@
+pub mod WordLemmas
+pub mod Law
+pub mod Lists
+pub mod Places
+pub mod Making
