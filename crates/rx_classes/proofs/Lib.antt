@@ -1,0 +1,11 @@
+pub mod ListLemmas
+pub mod ClassLemmas
+pub mod OrderLemmas
+pub mod RefusalLemmas
+pub mod AboveLemmas
+pub mod VisitLemmas
+pub mod KeptLemmas
+pub mod MethodLemmas
+pub mod FindLemmas
+pub mod WayLemmas
+pub mod LinkLemmas
