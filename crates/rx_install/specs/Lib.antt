@@ -1,0 +1,4 @@
+pub mod Installation
+pub mod Laws
+pub mod Waiting
+pub mod States
