@@ -1,0 +1,3 @@
+pub mod ActivityLemmas
+pub mod FoundLemmas
+pub mod RunLemmas
