@@ -1,0 +1,11 @@
+pub mod Equations
+pub mod Rests
+pub mod Contexts
+pub mod First
+pub mod Steps
+pub mod At
+pub mod Runs
+pub mod Built
+pub mod NamingLemmas
+pub mod Soundness
+pub mod BuiltinLemmas

@@ -1,0 +1,13 @@
+pub mod Reading
+pub mod Naming
+pub mod Calling
+pub mod Evaluation
+pub mod Places
+pub mod Machine
+pub mod Steps
+pub mod Sound
+pub mod Whole
+pub mod Built
+pub mod Code
+pub mod Computed
+pub mod Answers
