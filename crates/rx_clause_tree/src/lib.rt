@@ -13,7 +13,9 @@ mod simple;
 mod template;
 
 pub use clause::{Before, Body, Clause, ClauseKind, When};
-pub use crossing::{template_crosses, trap_crosses};
+pub use crossing::{
+    body_crosses, clause_crosses, package_crosses, simple_crosses, template_crosses, trap_crosses,
+};
 pub use instruction::{
     Forward, Forwarded, Parameter, Routine, Trap, share_arguments, share_condition, share_given,
     share_names,

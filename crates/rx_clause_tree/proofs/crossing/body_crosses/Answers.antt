@@ -1,0 +1,9 @@
+use denote.Param.Send.{sendable}
+use Rattle.rx_clause_tree.proofs.Sending.{body_send, body_sync}
+use Rattle.rx_clause_tree.proofs.crossing.body_crosses.Goals as goal
+
+pub crosses_threads-requires-send-T : goal.crosses_threads-requires-send-T
+crosses_threads-requires-send-T c κs = search (body_send, sendable)
+
+pub crosses_threads-requires-sync-T : goal.crosses_threads-requires-sync-T
+crosses_threads-requires-sync-T c κs = search (body_sync, sendable)
