@@ -1,0 +1,7 @@
+pub mod MethodClauses
+pub mod Conditions
+pub mod Programs
+pub mod Refusals
+pub mod Checking
+pub mod Validity
+pub mod Laws
