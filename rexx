@@ -1,5 +1,5 @@
 #!/bin/sh
-# The interpreter: ./rexx run FILE, and what help says. Where the program isn't built, or is older than its sources, it is
+# The interpreter: ./rexx run FILE, ./rexx check FILE, and what help says. Where the program isn't built, or is older than its sources, it is
 # built first; how far that is stands on standard error. Then this script becomes the program, in the caller's folder.
 top=$(CDPATH='' cd -- "$(dirname -- "$0")" && pwd) || exit 1
 proved=$top/crates/rx_cli/out/rx_cli
@@ -16,7 +16,8 @@ Samdrulka, a proved interpreter for Open Object Rexx (whole-number profile)
 
   ./rexx run FILE            runs the program of a file
   ./rexx run --steps N FILE  the same with N steps at most, from 1 to 10,000,000, in place of 1,000,000
-  ./rexx --unproved run ..   the same by a trial build, of which nothing is proved
+  ./rexx check FILE          tells whether a source is a program of the whole language, and runs nothing
+  ./rexx --unproved WORDS    what the words say, run or check, by a trial build, of which nothing is proved
   ./rexx --help              prints this
   ./rexx --version           prints the commit and the toolchain
 
@@ -24,7 +25,7 @@ FILE is absolute, or from the working directory on. The first run proves and bui
 hour. The trial build is there in about a minute, and runs some 300 times slower.
 
 Status  When
-     0  the run ended, and no error ended the main program
+     0  the run ended, and no error ended the main program; or the source that was checked is a program
      1  the program could not be built
    127  the toolchain's command rt is not on the path
    240  the source is no program
@@ -35,6 +36,7 @@ Status  When
    246  standard output or standard error failed
    247  a growth of memory was refused
    249  an error ended the main program
+   250  the source that was checked has more than 4,194,304 bytes, or more than 250 brackets that are open at once
 END
 }
 

@@ -1,9 +1,10 @@
 //! Tells of the cases of its standard input, a line each, what comes of them.
 //!
-//! Of `run` and a source it tells the status, the number of steps, the output and the report, and of `picks` and a source
-//! which activities took the steps. Of `words` and the words of a command line it tells the same as of `run`; the only file
-//! is `case`, which has `say 'Hello'`. In sources and answers `\n`, `\r`, `\t` and `\\` are one byte, as in the language that
-//! this is written in, and `\xFF` is the byte of that number. Any other line is a heading, and told as it stands.
+//! Of `run` and a source it tells the status, the number of steps, the output and the report, of `check` and a source the
+//! same of a check, and of `picks` and a source which activities took the steps. Of `words` and the words of a command line
+//! it tells the same as of `run`; the only file is `case`, which has `say 'Hello'`. In sources and answers `\n`, `\r`, `\t`
+//! and `\\` are one byte, as in the language that this is written in, and `\xFF` is the byte of that number. Any other line
+//! is a heading, and told as it stands.
 #![tactic(auto)]
 
 mod running;
@@ -21,6 +22,10 @@ fn tell(rt: &(impl Threads + Wait + Sync + AllocGlobal), line: &str) -> Result<S
     if let Some(source) = line.strip_prefix("run ") {
         let source = unescape(alloc, source.as_bytes())?;
         return tell_call(alloc, &call(rt, " run case", source)?);
+    }
+    if let Some(source) = line.strip_prefix("check ") {
+        let source = unescape(alloc, source.as_bytes())?;
+        return tell_call(alloc, &call(rt, " check case", source)?);
     }
     if let Some(source) = line.strip_prefix("picks ") {
         let source = unescape(alloc, source.as_bytes())?;

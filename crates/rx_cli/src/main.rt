@@ -1,4 +1,4 @@
-//! `rexx run FILE`: runs an Open Object Rexx program, and ends with its status.
+//! `rexx run FILE` runs an Open Object Rexx program, and `rexx check FILE` tells whether a source is one; both end with a status.
 //!
 //! The objects of the outside are made here, and everything else is done by the one call of `rexx_call`.
 #![tactic(auto)]

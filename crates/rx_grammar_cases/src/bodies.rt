@@ -142,6 +142,18 @@ fn show_clause(alloc: Global, shown: &mut Vec<u8>, clause: &Clause) -> Result<()
     }
 }
 
+// Equal clauses, which are shown in place of these.
+fn shares(alloc: Global, clauses: &[Clause]) -> Result<Vec<Clause>, AllocError> {
+    let mut shared = Vec::new(alloc);
+    for clause in clauses {
+        let Ok(share) = clause.share(alloc) else {
+            return Err(AllocError);
+        };
+        shared.push(share)?;
+    }
+    Ok(shared)
+}
+
 /// The body of some tokens as text, where its tree is asked for, and the place where it ends; or why there is none.
 pub fn tell_body_at(
     alloc: Global,
@@ -159,7 +171,8 @@ pub fn tell_body_at(
         Ok((body, end)) => {
             let mut shown = Vec::new(alloc);
             if whole {
-                show_clauses(alloc, &mut shown, body.clauses.as_slice())?;
+                let shared = shares(alloc, body.clauses.as_slice())?;
+                show_clauses(alloc, &mut shown, shared.as_slice())?;
             }
             let shown = escape(alloc, shown.as_slice())?;
             format!(in alloc; "{shown} to {end}")

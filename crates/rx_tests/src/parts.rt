@@ -35,9 +35,20 @@ fn assert_plain_run(rt: &impl Abort, asks: &Request) {
         schedule,
         program,
         arg,
-    } = asks;
+    } = asks
+    else {
+        panic!(rt; "another request");
+    };
     assert!(rt; *workers == 0 && *steps == 1_000_000);
     assert!(rt; schedule.is_none() && arg.is_none());
+    assert!(rt; program.as_slice() == b"p".as_slice());
+}
+
+// `check p` is asked for.
+fn assert_check(rt: &impl Abort, asks: &Request) {
+    let Request::Check { program } = asks else {
+        panic!(rt; "another request");
+    };
     assert!(rt; program.as_slice() == b"p".as_slice());
 }
 
@@ -46,6 +57,8 @@ fn words_are_read(rt: HostRuntime) -> Result<(), Fail> {
     let alloc = rt.alloc();
     let words = [b"run".to_vec(alloc)?, b"p".to_vec(alloc)?];
     assert_plain_run(&rt, &read_words(alloc, &words)?);
+    let check = [b"check".to_vec(alloc)?, b"p".to_vec(alloc)?];
+    assert_check(&rt, &read_words(alloc, &check)?);
     match read_words(alloc, &words[..1]) {
         Err(WordsRefused::NotARequest) => Ok(()),
         _ => panic!(rt; "words that are no request"),

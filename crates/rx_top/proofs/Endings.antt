@@ -1,5 +1,5 @@
 -- How a call ends, from what its parts say.
-use Rattle.std.proofs.Common.{lit<, ◌≡◌, ◌<◌, inl, inr, ℕ, List, [], Option, None, Some, refl, sym, ◌∙◌, subst, arith}
+use Rattle.std.proofs.Common.{lit<, ◌≡◌, ◌<◌, ◌≤◌, inl, inr, length, ℕ, List, [], Option, None, Some, refl, sym, ◌∙◌, subst, arith}
 use Rattle.std.specs.Io.KnownBytes.{Appends}
 use Rattle.rx_tree.specs.declared.line.clause.Package.{Package}
 use Rattle.rx_tree.specs.World.{World, Ending}
@@ -13,12 +13,13 @@ use Rattle.rx_ports.specs.declared.sink.Accepted.{Accepted}
 use Rattle.rx_ports.specs.declared.sink.Accepted.TheVariants.{All, Failed, NoMemory}
 use Rattle.rx_top.specs.declared.words.Request.{Request}
 use Rattle.rx_top.specs.declared.conclusion.Conclusion.{Conclusion}
-use Rattle.rx_top.specs.Words.{program_of, steps_of}
+use Rattle.rx_top.specs.declared.words.Request.TheVariants.{Run, Check}
+use Rattle.rx_top.specs.Words.{request, AskToRun, AskToCheck}
 use Rattle.rx_top.specs.Loading.{HasProgram, HasNoProgram}
 use Rattle.rx_top.specs.Ports.{Ports, HasInput}
 use Rattle.rx_top.specs.Runs.{IsRunOf}
-use Rattle.rx_top.specs.Conclusions.{Ran, RanNothing, IsConclusion, OfRun, OfNoProgram, OfNoRequest, OfShelf, OfMemory, Fulfils, line_240, line_243, line_244}
-use Rattle.rx_top.specs.Headline.{IsTold, Tells, Whole, AtFault, AtWant, IsAnswer, IsRunStatus, ToldLine, ByStatus}
+use Rattle.rx_top.specs.Conclusions.{Ran, RanNothing, IsConclusion, OfRun, OfNoProgram, OfFine, OfBad, OfLong, OfDeep, OfNoRequest, OfShelf, OfMemory, Concludes, Fulfils, RunsFile, ChecksFile, line_ok, line_240, line_bad, line_243, line_244, line_long, line_deep}
+use Rattle.rx_top.specs.Headline.{IsTold, Tells, Whole, AtFault, AtWant, IsAnswer, IsRunStatus, ToldTexts, ByStatus}
 use Rattle.rx_top.specs.Telling.{TellsBoth}
 
 -- the bytes of the input, where it tells them
@@ -32,31 +33,54 @@ known-is None = tt
 known-is (Some left) = refl
 
 -- A program was found, and run.
-pub fulfils-run : (asks : Request) (files : Option Files) (before now : ℕ) (program : Package) (name : List ℕ) (steps : ℕ) (told : Conclusion)
-    → name ≡ program_of asks → steps ≡ steps_of asks → HasProgram files name program → ((bytes : List ℕ) → IsRunOf program steps bytes told)
-    → Fulfils asks files before now told
-fulfils-run asks files before now program name steps told is_name is_steps has run = λ words asked input. OfRun (record {
-  asks = asks;
+pub runs-found : (files : Option Files) (before now : ℕ) (program : Package) (name : List ℕ) (steps : ℕ) (told : Conclusion)
+    → HasProgram files name program → ((bytes : List ℕ) → IsRunOf program steps bytes told) → RunsFile name steps files before now told
+runs-found files before now program name steps told has run = λ words asked input. OfRun (record {
+  name = name;
+  budget = steps;
   asked = asked;
   program = program;
-  has_program = subst (λ (n : List ℕ). HasProgram files n program) is_name has;
+  has_program = has;
   bytes = known input;
   has_input = known-is input;
-  run = subst (λ (n : ℕ). IsRunOf program n (known input) told) is_steps (run (known input));
+  run = run (known input);
 })
 
+same-report : (number : ℕ) (output line other : List ℕ) (told : Conclusion) → line ≡ other → RanNothing number output line told
+    → RanNothing number output other told
+same-report number output line other told is ran = subst (λ (l : List ℕ). RanNothing number output l told) is ran
+
 -- The file has no program.
-pub fulfils-no-program : (asks : Request) (files : Option Files) (before now : ℕ) (name line : List ℕ) (told : Conclusion)
-    → name ≡ program_of asks → HasNoProgram files name → line ≡ line_240 → RanNothing 240 line told → Fulfils asks files before now told
-fulfils-no-program asks files before now name line told is_name none is_line ran = λ words asked input.
-    OfNoProgram (subst (λ (l : List ℕ). RanNothing 240 l told) is_line ran)
-    (record { asks = asks; asked = asked; has_none = subst (λ (n : List ℕ). HasNoProgram files n) is_name none })
+pub runs-none : (files : Option Files) (before now : ℕ) (name line : List ℕ) (steps : ℕ) (told : Conclusion)
+    → HasNoProgram files name → line ≡ line_240 → RanNothing 240 [] line told → RunsFile name steps files before now told
+runs-none files before now name line steps told none is ran = λ words asked input.
+    OfNoProgram (same-report 240 [] line line_240 told is ran) (record { name = name; budget = steps; asked = asked; has_none = none })
 
 -- The shelf has failed.
-pub fulfils-no-file : (asks : Request) (files : Option Files) (before now : ℕ) (line : List ℕ) (told : Conclusion)
-    → Rose before now → line ≡ line_244 → RanNothing 244 line told → Fulfils asks files before now told
-fulfils-no-file asks files before now line told rose is_line ran = λ words asked input.
-    OfShelf (subst (λ (l : List ℕ). RanNothing 244 l told) is_line ran) (record { asks = asks; asked = asked; rose = rose })
+no-file : (words : List (List ℕ)) (asks : Request) (files : Option Files) (before now : ℕ) (line : List ℕ) (told : Conclusion) → request words ≡ Some asks
+    → Rose before now → line ≡ line_244 → RanNothing 244 [] line told → Concludes words files before now told
+no-file words asks files before now line told asked rose is ran = λ input.
+    OfShelf (same-report 244 [] line line_244 told is ran) (record { asks = asks; asked = asked; rose = rose })
+
+pub runs-no-file : (files : Option Files) (before now : ℕ) (name line : List ℕ) (steps : ℕ) (told : Conclusion)
+    → Rose before now → line ≡ line_244 → RanNothing 244 [] line told → RunsFile name steps files before now told
+runs-no-file files before now name line steps told rose is ran = λ words asked.
+    no-file words (Run asked.workers steps asked.schedule name asked.arg) files before now line told asked.asked rose is ran
+
+pub checks-no-file : (files : Option Files) (before now : ℕ) (name line : List ℕ) (told : Conclusion)
+    → Rose before now → line ≡ line_244 → RanNothing 244 [] line told → ChecksFile name files before now told
+checks-no-file files before now name line told rose is ran = λ words asked.
+    no-file words (Check name) files before now line told asked rose is ran
+
+-- What running a file comes to is what the request for it comes to, and so is what checking it comes to.
+pub fulfils-run : (workers steps : ℕ) (schedule : Option (List ℕ)) (name : List ℕ) (arg : Option (List ℕ)) (files : Option Files) (before now : ℕ)
+    (told : Conclusion) → RunsFile name steps files before now told → Fulfils (Run workers steps schedule name arg) files before now told
+fulfils-run workers steps schedule name arg files before now told runs = λ words asked.
+    runs words (record { workers = workers; schedule = schedule; arg = arg; asked = asked })
+
+pub fulfils-check : (name : List ℕ) (files : Option Files) (before now : ℕ) (told : Conclusion) → ChecksFile name files before now told
+    → Fulfils (Check name) files before now told
+fulfils-check name files before now told checks = λ words asked. checks words asked
 
 -- the status of a world is one of a run
 status-finished : (ending : Ending) → IsRunStatus (status_finished ending)
@@ -97,13 +121,17 @@ no-246 = not-run 246 (omega arith) (λ e. omega arith) (λ e. omega arith) (λ e
 no-247 : IsRunStatus 247 → ⊥
 no-247 = not-run 247 (omega arith) (λ e. omega arith) (λ e. omega arith) (λ e. omega arith)
 
-told-line : (before now : Ports) (number : ℕ) (line : List ℕ) (told : Conclusion) (steps : ℕ) (schedule : List ℕ)
-    → RanNothing number line told → IsTold before now told → steps ≡ told.steps → schedule ≡ told.schedule.items → ToldLine before now line steps schedule
-told-line before now number line told steps schedule ran is is_steps is_schedule = record {
+no-250 : IsRunStatus 250 → ⊥
+no-250 = not-run 250 (omega arith) (λ e. omega arith) (λ e. omega arith) (λ e. omega arith)
+
+told-texts : (before now : Ports) (number : ℕ) (output report : List ℕ) (told : Conclusion) (steps : ℕ) (schedule : List ℕ)
+    → RanNothing number output report told → IsTold before now told → steps ≡ told.steps → schedule ≡ told.schedule.items
+    → ToldTexts before now output report steps schedule
+told-texts before now number output report told steps schedule ran is is_steps is_schedule = record {
   no_steps = is_steps ∙ ran.steps;
   no_schedule = is_schedule ∙ ran.schedule;
-  wrote = subst (λ (bytes : List ℕ). Appends before.out now.out bytes) ran.output is.wrote;
-  reported = subst (λ (bytes : List ℕ). Appends before.err now.err bytes) ran.report is.reported;
+  wrote = subst (λ (bytes : List ℕ). Appends before.out now.out bytes) ran.wrote is.wrote;
+  reported = subst (λ (bytes : List ℕ). Appends before.err now.err bytes) ran.reported is.reported;
 }
 
 -- what was told whole, by its status
@@ -114,21 +142,72 @@ told-by-status words before now status steps schedule told (OfRun ran) is is_sta
     let runs : IsRunStatus status = subst IsRunStatus (sym is_status) (run-status words before.files before.input told ran) in
     record {
       listed = inl runs;
-      of_run = λ r. record { told = told; ran = ran; gives_status = is_status; gives_steps = is_steps; gives_schedule = is_schedule; written = is };
+      of_run = λ r. inl (record { told = told; ran = ran; gives_status = is_status; gives_steps = is_steps; gives_schedule = is_schedule; written = is });
       at_240 = λ e. absurd (run-is-not status 240 runs no-240 e);
       at_243 = λ e. absurd (run-is-not status 243 runs no-243 e);
       at_244 = λ e. absurd (run-is-not status 244 runs no-244 e);
       at_246 = λ e. absurd (run-is-not status 246 runs no-246 e);
+      at_250 = λ e. absurd (run-is-not status 250 runs no-250 e);
     }
 told-by-status words before now status steps schedule told (OfNoProgram ran asks) is is_status is_steps is_schedule =
     let number : status ≡ 240 = is_status ∙ ran.status in
     record {
       listed = inr (inl number);
       of_run = λ r. absurd (run-is-not status 240 r no-240 number);
-      at_240 = λ e. (asks, told-line before now 240 line_240 told steps schedule ran is is_steps is_schedule);
+      at_240 = λ e. inl (asks, told-texts before now 240 [] line_240 told steps schedule ran is is_steps is_schedule);
       at_243 = λ e. absurd (omega arith);
       at_244 = λ e. absurd (omega arith);
       at_246 = λ e. absurd (omega arith);
+      at_250 = λ e. absurd (omega arith);
+    }
+told-by-status words before now status steps schedule told (OfFine ran checks) is is_status is_steps is_schedule =
+    let number : status ≡ 0 = is_status ∙ ran.status in
+    record {
+      listed = inl (subst IsRunStatus (sym number) (inl (lit< tt)));
+      of_run = λ r. inr (number, checks, told-texts before now 0 line_ok [] told steps schedule ran is is_steps is_schedule);
+      at_240 = λ e. absurd (omega arith);
+      at_243 = λ e. absurd (omega arith);
+      at_244 = λ e. absurd (omega arith);
+      at_246 = λ e. absurd (omega arith);
+      at_250 = λ e. absurd (omega arith);
+    }
+told-by-status words before now status steps schedule told (OfBad line code ran checks) is is_status is_steps is_schedule =
+    let number : status ≡ 240 = is_status ∙ ran.status in
+    record {
+      listed = inr (inl number);
+      of_run = λ r. absurd (run-is-not status 240 r no-240 number);
+      at_240 = λ e. inr (record {
+        line = line;
+        number = code;
+        checks = checks;
+        told = told-texts before now 240 [] (line_bad line code) told steps schedule ran is is_steps is_schedule;
+      });
+      at_243 = λ e. absurd (omega arith);
+      at_244 = λ e. absurd (omega arith);
+      at_246 = λ e. absurd (omega arith);
+      at_250 = λ e. absurd (omega arith);
+    }
+told-by-status words before now status steps schedule told (OfLong ran checks) is is_status is_steps is_schedule =
+    let number : status ≡ 250 = is_status ∙ ran.status in
+    record {
+      listed = inr (inr (inr (inr (inr (inr number)))));
+      of_run = λ r. absurd (run-is-not status 250 r no-250 number);
+      at_240 = λ e. absurd (omega arith);
+      at_243 = λ e. absurd (omega arith);
+      at_244 = λ e. absurd (omega arith);
+      at_246 = λ e. absurd (omega arith);
+      at_250 = λ e. inl (checks, told-texts before now 250 [] line_long told steps schedule ran is is_steps is_schedule);
+    }
+told-by-status words before now status steps schedule told (OfDeep ran checks) is is_status is_steps is_schedule =
+    let number : status ≡ 250 = is_status ∙ ran.status in
+    record {
+      listed = inr (inr (inr (inr (inr (inr number)))));
+      of_run = λ r. absurd (run-is-not status 250 r no-250 number);
+      at_240 = λ e. absurd (omega arith);
+      at_243 = λ e. absurd (omega arith);
+      at_244 = λ e. absurd (omega arith);
+      at_246 = λ e. absurd (omega arith);
+      at_250 = λ e. inr (checks, told-texts before now 250 [] line_deep told steps schedule ran is is_steps is_schedule);
     }
 told-by-status words before now status steps schedule told (OfNoRequest ran none) is is_status is_steps is_schedule =
     let number : status ≡ 243 = is_status ∙ ran.status in
@@ -136,9 +215,10 @@ told-by-status words before now status steps schedule told (OfNoRequest ran none
       listed = inr (inr (inl number));
       of_run = λ r. absurd (run-is-not status 243 r no-243 number);
       at_240 = λ e. absurd (omega arith);
-      at_243 = λ e. (none, told-line before now 243 line_243 told steps schedule ran is is_steps is_schedule);
+      at_243 = λ e. (none, told-texts before now 243 [] line_243 told steps schedule ran is is_steps is_schedule);
       at_244 = λ e. absurd (omega arith);
       at_246 = λ e. absurd (omega arith);
+      at_250 = λ e. absurd (omega arith);
     }
 told-by-status words before now status steps schedule told (OfShelf ran failed) is is_status is_steps is_schedule =
     let number : status ≡ 244 = is_status ∙ ran.status in
@@ -147,18 +227,20 @@ told-by-status words before now status steps schedule told (OfShelf ran failed) 
       of_run = λ r. absurd (run-is-not status 244 r no-244 number);
       at_240 = λ e. absurd (omega arith);
       at_243 = λ e. absurd (omega arith);
-      at_244 = λ e. (failed, told-line before now 244 line_244 told steps schedule ran is is_steps is_schedule);
+      at_244 = λ e. (failed, told-texts before now 244 [] line_244 told steps schedule ran is is_steps is_schedule);
       at_246 = λ e. absurd (omega arith);
+      at_250 = λ e. absurd (omega arith);
     }
 told-by-status words before now status steps schedule told (OfMemory ran) is is_status is_steps is_schedule =
     let number : status ≡ 247 = is_status ∙ ran.status in
     record {
-      listed = inr (inr (inr (inr (inr number))));
+      listed = inr (inr (inr (inr (inr (inl number)))));
       of_run = λ r. absurd (run-is-not status 247 r no-247 number);
       at_240 = λ e. absurd (omega arith);
       at_243 = λ e. absurd (omega arith);
       at_244 = λ e. absurd (omega arith);
       at_246 = λ e. absurd (omega arith);
+      at_250 = λ e. absurd (omega arith);
     }
 
 tells-by-status : (words : List (List ℕ)) (before now : Ports) (status steps : ℕ) (schedule : List ℕ) (told : Conclusion)
@@ -173,14 +255,16 @@ tells-by-status words before now status steps schedule told why (AtFault number 
   at_243 = λ e. absurd (omega arith);
   at_244 = λ e. absurd (omega arith);
   at_246 = λ e. rose;
+  at_250 = λ e. absurd (omega arith);
 }
 tells-by-status words before now status steps schedule told why (AtWant number torn) is_steps is_schedule = record {
-  listed = inr (inr (inr (inr (inr number))));
+  listed = inr (inr (inr (inr (inr (inl number)))));
   of_run = λ r. absurd (run-is-not status 247 r no-247 number);
   at_240 = λ e. absurd (omega arith);
   at_243 = λ e. absurd (omega arith);
   at_244 = λ e. absurd (omega arith);
   at_246 = λ e. absurd (omega arith);
+  at_250 = λ e. absurd (omega arith);
 }
 
 -- An answer, by its status.

@@ -5,7 +5,9 @@ use Rattle.rx_ports.specs.Sinks.{AppendsPrefix}
 use Rattle.rx_top.specs.declared.conclusion.Conclusion.{Conclusion}
 use Rattle.rx_top.specs.Words.{request}
 use Rattle.rx_top.specs.Ports.{Ports, SinkRose}
-use Rattle.rx_top.specs.Conclusions.{Ran, AsksNoProgram, ShelfFailed, IsConclusion, line_240, line_243, line_244}
+use Rattle.rx_packages.specs.Refusals.{IsDeep}
+use Rattle.rx_packages.specs.Checking.{IsSomeProgram}
+use Rattle.rx_top.specs.Conclusions.{Ran, AsksNoProgram, ChecksOne, ShelfFailed, IsLong, IsBadAt, IsConclusion, line_ok, line_240, line_bad, line_243, line_244, line_long, line_deep}
 
 -- A call tells what it has to tell whole: standard output and standard error have accepted it.
 pub record IsTold (before now : Ports) (told : Conclusion) : Type 0 where
@@ -45,18 +47,35 @@ pub record ToldRun (words : List (List ℕ)) (before now : Ports) (status steps 
   pub gives_schedule : schedule ≡ told.schedule.items
   pub written : IsTold before now told
 
--- nothing was run, and a line was told whole
-pub record ToldLine (before now : Ports) (line : List ℕ) (steps : ℕ) (schedule : List ℕ) : Type 0 where
+-- nothing was run, and these texts were told whole
+pub record ToldTexts (before now : Ports) (output report : List ℕ) (steps : ℕ) (schedule : List ℕ) : Type 0 where
   pub no_steps : steps ≡ 0
   pub no_schedule : schedule ≡ []
-  pub wrote : Appends before.out now.out []
-  pub reported : Appends before.err now.err line
+  pub wrote : Appends before.out now.out output
+  pub reported : Appends before.err now.err report
+
+-- a source that is a program was checked, and that was told
+abbrev pub ToldFine : List (List ℕ) → Ports → Ports → ℕ → ℕ → List ℕ → Type 0
+ToldFine words before now status steps schedule =
+    (status ≡ 0) × ChecksOne words before.files IsSomeProgram × ToldTexts before now line_ok [] steps schedule
+
+-- a source that is no program was checked, and that was told
+pub record ToldBad (words : List (List ℕ)) (before now : Ports) (steps : ℕ) (schedule : List ℕ) : Type 0 where
+  pub line : ℕ
+  pub number : ℕ
+  pub checks : ChecksOne words before.files (IsBadAt line number)
+  pub told : ToldTexts before now [] (line_bad line number) steps schedule
 
 -- Each status, with its cause and with what was told.
 pub record ByStatus (words : List (List ℕ)) (before now : Ports) (status steps : ℕ) (schedule : List ℕ) : Type 0 where
-  pub listed : IsRunStatus status ⊎ ((status ≡ 240) ⊎ ((status ≡ 243) ⊎ ((status ≡ 244) ⊎ ((status ≡ 246) ⊎ (status ≡ 247)))))
-  pub of_run : IsRunStatus status → ToldRun words before now status steps schedule
-  pub at_240 : status ≡ 240 → AsksNoProgram words before.files × ToldLine before now line_240 steps schedule
-  pub at_243 : status ≡ 243 → (request words ≡ None) × ToldLine before now line_243 steps schedule
-  pub at_244 : status ≡ 244 → ShelfFailed words before.shelf_faults now.shelf_faults × ToldLine before now line_244 steps schedule
+  pub listed : IsRunStatus status
+      ⊎ ((status ≡ 240) ⊎ ((status ≡ 243) ⊎ ((status ≡ 244) ⊎ ((status ≡ 246) ⊎ ((status ≡ 247) ⊎ (status ≡ 250))))))
+  pub of_run : IsRunStatus status → ToldRun words before now status steps schedule ⊎ ToldFine words before now status steps schedule
+  pub at_240 : status ≡ 240
+      → (AsksNoProgram words before.files × ToldTexts before now [] line_240 steps schedule) ⊎ ToldBad words before now steps schedule
+  pub at_243 : status ≡ 243 → (request words ≡ None) × ToldTexts before now [] line_243 steps schedule
+  pub at_244 : status ≡ 244 → ShelfFailed words before.shelf_faults now.shelf_faults × ToldTexts before now [] line_244 steps schedule
   pub at_246 : status ≡ 246 → SinkRose before now
+  pub at_250 : status ≡ 250
+      → (ChecksOne words before.files IsLong × ToldTexts before now [] line_long steps schedule)
+      ⊎ (ChecksOne words before.files IsDeep × ToldTexts before now [] line_deep steps schedule)

@@ -4,7 +4,7 @@ use Rattle.std.specs.Option.{option_and_then}
 use Rattle.std.specs.Str.{bytes_eq}
 use Rattle.std.specs.Str.Parse.{digits_value}
 use Rattle.rx_top.specs.declared.words.Request.{Request}
-use Rattle.rx_top.specs.declared.words.Request.TheVariants.{Run}
+use Rattle.rx_top.specs.declared.words.Request.TheVariants.{Run, Check}
 use Rattle.rx_top.specs.declared.words.WordsRefused.{WordsRefused}
 use Rattle.rx_top.specs.declared.words.WordsRefused.TheVariants.{NotARequest, OutOfMemory}
 
@@ -40,21 +40,31 @@ run_request (option ∷ steps ∷ program ∷ []) =
     else None
 run_request _ = None
 
+-- what follows `check`: the program
+abbrev pub check_request : List (List ℕ) → Option Request
+check_request (program ∷ []) = if is_option program then None else Some (Check program)
+check_request _ = None
+
 -- The request that words are.
 unfoldable pub request : List (List ℕ) → Option Request
 request [] = None
-request (command ∷ words) = if bytes_eq command (codes "run") then run_request words else None
+request (command ∷ words) =
+    if bytes_eq command (codes "run") then run_request words
+    else (if bytes_eq command (codes "check") then check_request words else None)
 
--- the name of the program's file
-abbrev pub program_of : Request → List ℕ
-program_of (Run workers steps schedule program arg) = program
+-- The words ask to run the program of this file, with so many steps.
+pub record AskToRun (words : List (List ℕ)) (name : List ℕ) (budget : ℕ) : Type 0 where
+  pub workers : ℕ
+  pub schedule : Option (List ℕ)
+  pub arg : Option (List ℕ)
+  pub asked : request words ≡ Some (Run workers budget schedule name arg)
 
--- the steps that it may take
-abbrev pub steps_of : Request → ℕ
-steps_of (Run workers steps schedule program arg) = steps
+-- the words ask whether the source of this file is a program
+abbrev pub AskToCheck : List (List ℕ) → List ℕ → Type 0
+AskToCheck words name = request words ≡ Some (Check name)
 
--- What reading some words gives: their request, or that they are none, or want of memory.
-abbrev pub IsReading : List (List ℕ) → Result Request WordsRefused → Type 0
-IsReading words (Ok asked) = request words ≡ Some asked
-IsReading words (Err NotARequest) = request words ≡ None
-IsReading words (Err OutOfMemory) = Unit {0}
+-- What reading some words gives that are perhaps a request: it, or that they are none, or want of memory.
+abbrev pub IsReadingOf : Option Request → Result Request WordsRefused → Type 0
+IsReadingOf found (Ok asked) = found ≡ Some asked
+IsReadingOf found (Err NotARequest) = found ≡ None
+IsReadingOf found (Err OutOfMemory) = Unit {0}

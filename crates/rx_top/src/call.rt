@@ -9,7 +9,8 @@ use std::alloc::Global;
 use std::sync::Wait;
 use std::thread::Threads;
 
-/// Does what the words ask for: runs a program, or refuses, and tells what came of it. It is all that the program does.
+/// Does what the words ask for: runs a program or checks a source, or refuses, and tells what came of it. It is all that the
+/// program does.
 ///
 /// The words are those behind the program's own name. `out` gets what the program says, and `err` the report. No request
 /// asks for workers yet, so nothing is computed beside this thread, and `gate` isn't called.

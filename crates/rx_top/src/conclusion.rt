@@ -28,9 +28,23 @@ impl Drop for Conclusion {
 }
 
 impl Conclusion {
+    /// That nothing was run, with status 0 and a line for the output, or want of memory.
+    pub fn fine(alloc: Global, line: &[u8]) -> Result<Conclusion, OutOfMemory>
+        ensures { IfOk result (RanNothing 0 line.now []) }
+    {
+        let output = Vec::from_slice(alloc, line)?;
+        Ok(Conclusion {
+            status: 0,
+            steps: 0,
+            schedule: Vec::new(alloc),
+            output,
+            report: Vec::new(alloc),
+        })
+    }
+
     /// That nothing was run, with a status and a line for the report, or want of memory.
     pub fn refused(alloc: Global, status: u8, line: &[u8]) -> Result<Conclusion, OutOfMemory>
-        ensures { IfOk result (RanNothing status line.now) }
+        ensures { IfOk result (RanNothing status [] line.now) }
     {
         let report = Vec::from_slice(alloc, line)?;
         Ok(Conclusion {
@@ -44,7 +58,7 @@ impl Conclusion {
 
     /// That nothing was run, with a status alone.
     pub fn silent(alloc: Global, status: u8) -> Conclusion
-        ensures { RanNothing status [] result }
+        ensures { RanNothing status [] [] result }
     {
         Conclusion {
             status,

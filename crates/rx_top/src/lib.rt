@@ -4,6 +4,7 @@
 #![tactic(auto)]
 
 mod call;
+mod checking;
 mod conclusion;
 mod digits;
 mod loading;

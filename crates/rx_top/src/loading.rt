@@ -18,8 +18,8 @@ pub enum Loaded {
     NoMemory,
 }
 
-// How much of a file is asked for: a byte more than the longest source.
-const ASKED: usize = 4_194_305;
+/// How much of a file is asked for: a byte more than the longest source.
+pub const ASKED: usize = 4_194_305;
 
 /// The program of a file, if its source is one.
 pub fn load<F: Shelf>(alloc: Global, shelf: &mut F, name: &[u8]) -> Loaded

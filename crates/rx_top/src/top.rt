@@ -1,9 +1,10 @@
 // The top call, on one thread.
 ghost use Rattle.std.specs.Prelude.{◌≡◌, ℕ, List, IfOk, map};
-ghost use Rattle.rx_top.specs.Conclusions.{Fulfils, Concludes};
+ghost use Rattle.rx_top.specs.Conclusions.{RunsFile, Fulfils, Concludes};
 ghost use Rattle.rx_top.specs.Ports.{ports};
 ghost use Rattle.rx_top.specs.Headline.{IsAnswer, ByStatus};
 
+use crate::checking::check_file;
 use crate::conclusion::Conclusion;
 use crate::loading::{Loaded, load};
 use crate::playing::play;
@@ -41,16 +42,32 @@ impl<F: Drop, I: Drop, O: Drop, E: Drop> Drop for Ended<F, I, O, E> {
     }
 }
 
+// Runs the program of a file for so many steps at most, or wants memory.
+fn run_file<F: Shelf>(
+    alloc: Global,
+    shelf: &mut F,
+    name: &[u8],
+    steps: u64,
+) -> Result<Conclusion, OutOfMemory>
+    ensures conclusion { IfOk result (RunsFile name.now steps (F.files shelf.old) (F.faults shelf.old) (F.faults shelf.new)) }
+    ensures files { F.files shelf.new ≡ F.files shelf.old }
+{
+    match load(alloc, shelf, name) {
+        Loaded::Found(program) => play(alloc, program, steps),
+        Loaded::NoProgram => Conclusion::refused(alloc, 240, b"REX240 line 1 error 3\n"),
+        Loaded::ShelfFault => Conclusion::refused(alloc, 244, b"REX244 shelf\n"),
+        Loaded::NoMemory => Err(OutOfMemory),
+    }
+}
+
 // Does what a request asks for, or wants memory.
 fn fulfil<F: Shelf>(alloc: Global, asks: &Request, shelf: &mut F) -> Result<Conclusion, OutOfMemory>
     ensures conclusion { IfOk result (Fulfils asks.now (F.files shelf.old) (F.faults shelf.old) (F.faults shelf.new)) }
     ensures files { F.files shelf.new ≡ F.files shelf.old }
 {
-    match load(alloc, shelf, asks.program()) {
-        Loaded::Found(program) => play(alloc, program, asks.steps()),
-        Loaded::NoProgram => Conclusion::refused(alloc, 240, b"REX240 line 1 error 3\n"),
-        Loaded::ShelfFault => Conclusion::refused(alloc, 244, b"REX244 shelf\n"),
-        Loaded::NoMemory => Err(OutOfMemory),
+    match asks {
+        Request::Run { steps, program, .. } => run_file(alloc, shelf, program.as_slice(), *steps),
+        Request::Check { program } => check_file(alloc, shelf, program.as_slice()),
     }
 }
 
@@ -81,7 +98,7 @@ fn conclude<F: Shelf>(alloc: Global, words: &[Vec<u8>], shelf: &mut F) -> Conclu
     }
 }
 
-/// Does what the words ask for, on one thread: runs a program, or refuses, and tells what came of it.
+/// Does what the words ask for, on one thread: runs a program or checks a source, or refuses, and tells what came of it.
 ///
 /// The headline for runs without workers is its contract: `answer` says what is told and given back, and why; `by_status`
 /// says the same by the status.

@@ -3,7 +3,7 @@ ghost use Rattle.std.specs.Prelude.{◌≡◌, ℕ, List, map};
 ghost use Rattle.std.specs.Option.{option_and_then};
 ghost use Rattle.rx_whole.specs.Number.{num};
 ghost use Rattle.rx_whole.specs.Numeral.{numeral_of};
-ghost use Rattle.rx_top.specs.Words.{request, is_option, is_number_between, number_between, run_of, run_request, program_of, steps_of, IsReading};
+ghost use Rattle.rx_top.specs.Words.{request, is_option, is_number_between, number_between, run_of, run_request, check_request, IsReadingOf};
 
 use itoa::Buffer;
 use rx_whole::{Numeral, read_number};
@@ -27,26 +27,11 @@ pub enum Request {
         /// The program's argument.
         arg: Option<Items<u8>>,
     },
-}
-
-impl Request {
-    /// The name of the program's file.
-    pub fn program(&self) -> &[u8]
-        ensures name { result.now ≡ program_of self.now }
-    {
-        match self {
-            Request::Run { program, .. } => program.as_slice(),
-        }
-    }
-
-    /// How many steps the program may take.
-    pub fn steps(&self) -> u64
-        ensures steps { result ≡ steps_of self.now }
-    {
-        match self {
-            Request::Run { steps, .. } => *steps,
-        }
-    }
+    /// To tell whether a source is a program.
+    Check {
+        /// The name of the source's file.
+        program: Items<u8>,
+    },
 }
 
 /// Why words gave no request.
@@ -117,18 +102,10 @@ fn steps_and_program(words: &[Vec<u8>]) -> Option<(u64, &[u8])>
     }
 }
 
-/// The request that the words are: `run`, then perhaps `--steps` and a number from 1 to 10,000,000 in decimal digits
-/// without leading zeros, then the name of a file, which begins with no `--`. Other words are refused.
-#[tactic(auto, unfolding(crate::specs::Words::request))]
-pub fn read_words(alloc: Global, words: &[Vec<u8>]) -> Result<Request, WordsRefused>
-    ensures reading { IsReading (map (λ word. word.items) words.now) result }
+// The request to run a program that the words behind `run` are.
+fn read_run(alloc: Global, words: &[Vec<u8>]) -> Result<Request, WordsRefused>
+    ensures { IsReadingOf (run_request (map (λ word. word.items) words.now)) result }
 {
-    let [command, words @ ..] = words else {
-        return Err(WordsRefused::NotARequest);
-    };
-    if command.as_slice() != b"run".as_slice() {
-        return Err(WordsRefused::NotARequest);
-    }
     let Some((steps, program)) = steps_and_program(words) else {
         return Err(WordsRefused::NotARequest);
     };
@@ -145,4 +122,39 @@ pub fn read_words(alloc: Global, words: &[Vec<u8>]) -> Result<Request, WordsRefu
         program,
         arg: None,
     })
+}
+
+// The request to check a source that the words behind `check` are.
+fn read_check(alloc: Global, words: &[Vec<u8>]) -> Result<Request, WordsRefused>
+    ensures { IsReadingOf (check_request (map (λ word. word.items) words.now)) result }
+{
+    let [program] = words else {
+        return Err(WordsRefused::NotARequest);
+    };
+    if is_option(program.as_slice()) {
+        return Err(WordsRefused::NotARequest);
+    }
+    let Ok(program) = Items::from_slice(alloc, program.as_slice()) else {
+        return Err(WordsRefused::OutOfMemory);
+    };
+    Ok(Request::Check { program })
+}
+
+/// The request that the words are: `run`, then perhaps `--steps` and a number from 1 to 10,000,000 in decimal digits
+/// without leading zeros, then the name of a file, which begins with no `--`; or `check` and the name of such a file. Other
+/// words are refused.
+#[tactic(auto, unfolding(crate::specs::Words::request))]
+pub fn read_words(alloc: Global, words: &[Vec<u8>]) -> Result<Request, WordsRefused>
+    ensures reading { IsReadingOf (request (map (λ word. word.items) words.now)) result }
+{
+    let [command, words @ ..] = words else {
+        return Err(WordsRefused::NotARequest);
+    };
+    if command.as_slice() == b"run".as_slice() {
+        return read_run(alloc, words);
+    }
+    if command.as_slice() == b"check".as_slice() {
+        return read_check(alloc, words);
+    }
+    Err(WordsRefused::NotARequest)
 }

@@ -1,14 +1,12 @@
-use Rattle.std.proofs.Common.{ℕ, List}
-use Rattle.rx_top.specs.Conclusions.{Fulfils}
-use Rattle.rx_top.specs.Runs.{IsRunOf}
+use Rattle.std.proofs.Common.{rules}
 use Rattle.std.proofs.lemmas.Result.{IfOk-weaker}
-use Rattle.rx_top.proofs.Endings.{fulfils-run}
+use Rattle.rx_top.specs.Conclusions.{ChecksFile, Fulfils}
 use Rattle.rx_top.proofs.top.fulfil.Goals as goal
 
-pub returns-in-Found-clause-conclusion : goal.returns-in-Found-clause-conclusion
-returns-in-Found-clause-conclusion g c =
-    IfOk-weaker c.play.result (λ told. (input : List ℕ) → IsRunOf c.in-Found.program c.steps.result input told)
-    (Fulfils c.args.asks.now (g.F.Shelf.files c.args.shelf.now) (g.F.Shelf.faults c.args.shelf.now) (g.F.Shelf.faults c.load.new.shelf))
-    (λ told run. fulfils-run c.args.asks.now _ _ _ c.in-Found.program c.program.result.now c.steps.result told
-    c.program.ensures.name c.steps.ensures.steps c.in-Found.ensures.loaded run)
-    c.play.ensures.run
+pub returns-in-Check-clause-conclusion : goal.returns-in-Check-clause-conclusion
+returns-in-Check-clause-conclusion g c =
+    IfOk-weaker c.check_file.result
+    (ChecksFile c.as_slice-in-Check.result.now (g.F.Shelf.files c.args.shelf.now) (g.F.Shelf.faults c.args.shelf.now) (g.F.Shelf.faults c.check_file.new.shelf))
+    (Fulfils c.args.asks.now (g.F.Shelf.files c.args.shelf.now) (g.F.Shelf.faults c.args.shelf.now) (g.F.Shelf.faults c.check_file.new.shelf))
+    (λ told checks words asked. checks words (search rules))
+    c.check_file.ensures.conclusion
