@@ -48,8 +48,8 @@ pub fn wanting(_error: OutOfMemory) -> AllocError {
     AllocError
 }
 
-// A text of some bytes; those behind the most that a text may have are left out.
-fn text_of(alloc: Global, bytes: &[u8]) -> Result<Text, AllocError> {
+/// A text of some bytes; those behind the most that a text may have are left out.
+pub fn text_of(alloc: Global, bytes: &[u8]) -> Result<Text, AllocError> {
     let most = bytes.len().min(16_777_216);
     Text::from_slice(alloc, &bytes[..most]).map_err(wanting)
 }

@@ -18,8 +18,8 @@ impl Drop for PoolCases {
     }
 }
 
-// The name under which a variable is watched.
-fn watched(name: &Derived) -> &Text
+/// The name under which a variable is watched.
+pub fn watched(name: &Derived) -> &Text
     ensures { result.now ≡ watched_name name.now }
 {
     match name {
@@ -29,7 +29,8 @@ fn watched(name: &Derived) -> &Text
     }
 }
 
-fn small(number: u64) -> u32 {
+/// A number that fits in 32 bits; a greater one is the greatest of these.
+pub fn small(number: u64) -> u32 {
     number.min(u64::from(u32::MAX)) as u32
 }
 

@@ -2,7 +2,7 @@
 use Rattle.std.proofs.Common.{◌≡◌, ◌<◌, ◌≤◌, ℕ, zero, suc, ◌+◌, ◌-◌, Bool, false, Option, Some, None, List, [], ◌∷◌, length, drop, refl, sym, ap, ◌∙◌, subst, arith}
 use Rattle.std.specs.Prelude.{map, slice_get, unwrap_or, if◌then◌else◌}
 use Rattle.std.specs.Option.{option_map}
-use Rattle.std.proofs.lemmas.List.{length-drop}
+use Rattle.std.proofs.lemmas.List.{drop-drop, drop_all, length-drop}
 use Rattle.rx_tree.specs.declared.name.Derived.{Derived}
 use Rattle.rx_tree.specs.declared.name.Derived.TheVariants.{Simple, Stem, Compound}
 use Rattle.rx_tree.specs.declared.name.Place.{Place}
@@ -70,21 +70,6 @@ home-step (frame ∷ frames) zero name place at =
 home-step (frame ∷ frames) (suc down) name place at =
     let e : suc down + 1 ≡ suc (down + 1) = omega arith in rw e (home-step frames down name place at)
 
-drop-none : {A : Type 0} (n : ℕ) → drop {A = A} n [] ≡ []
-drop-none zero = refl
-drop-none (suc n) = refl
-
-drop-drop : {A : Type 0} (m n : ℕ) (xs : List A) → drop n (drop m xs) ≡ drop (m + n) xs
-drop-drop zero n xs = ap (λ k. drop k xs) (omega arith)
-drop-drop (suc m) n [] = drop-none n ∙ sym (drop-none (suc m + n))
-drop-drop (suc m) n (x ∷ xs) = let e : suc m + n ≡ suc (m + n) = omega arith in rw e (drop-drop m n xs)
-
-drop-past : {A : Type 0} (xs : List A) (n : ℕ) → length xs ≤ n → drop n xs ≡ []
-drop-past [] zero few = refl
-drop-past [] (suc n) few = refl
-drop-past (x ∷ xs) zero few = absurd (omega (arith, few))
-drop-past (x ∷ xs) (suc n) few = drop-past xs n (omega (arith, few))
-
 -- ---- the walk: so many frames were passed, and the name lives where it does from the next one on
 
 pub lives-here : {T : Type 0} (frames : List (Frame T)) (down : ℕ) (name : Derived) (h : Home)
@@ -110,12 +95,12 @@ lives-lower frames down count name h walked at are few =
     ∙ lowered-beneath down (home (variables_of (drop (down + 1) frames)) name)
     ∙ ap (lowered (down + 1)) (home-shared (drop (down + 1) frames) count name are (omega (arith, length-drop (down + 1) frames)))
     ∙ lowered-lowered (down + 1) count (home (variables_of (drop count (drop (down + 1) frames))) name)
-    ∙ ap (λ fs. lowered (down + 1 + count) (home (variables_of fs) name)) (drop-drop (down + 1) count frames)
+    ∙ ap (λ fs. lowered (down + 1 + count) (home (variables_of fs) name)) (drop-drop count (down + 1) frames)
 
 -- no frame is left
 pub lives-nowhere : {T : Type 0} (frames : List (Frame T)) (down : ℕ) (name : Derived) (h : Home)
     → h ≡ lowered down (home (variables_of (drop down frames)) name) → length frames ≡ down → lives.Frame down ≡ h
 lives-nowhere frames down name h walked past =
     ap lives.Frame (omega arith)
-    ∙ ap (λ fs. lowered down (home (variables_of fs) name)) (sym (drop-past frames down (omega arith)))
+    ∙ ap (λ fs. lowered down (home (variables_of fs) name)) (sym (drop_all down frames (omega arith)))
     ∙ sym walked

@@ -116,27 +116,6 @@ fn append_part(
     }
 }
 
-// Appends a part of a tail behind another.
-fn append_next(
-    bytes: &mut Vec<u8>,
-    most: usize,
-    stacks: &Stacks,
-    pools: &Pools,
-    a: u32,
-    part: &Part,
-) -> Result<(), NamesRefused>
-    requires begun { IsBegun stacks.now a }
-    requires room { length bytes.old.items ≤ most }
-    ensures ok { OnOk result
-        (bytes.new.items ≡ bytes.old.items ++ next_text (variables_at stacks.now a) pools.now part.now) }
-    ensures short { OnOk result (length bytes.new.items ≤ most) }
-    ensures long { result ≡ Err NamesRefused.Long
-        → most < length bytes.old.items + length (next_text (variables_at stacks.now a) pools.now part.now) }
-{
-    append(bytes, most, b".")?;
-    append_part(bytes, most, stacks, pools, a, part)
-}
-
 // Appends the parts of a tail behind the first.
 fn append_others(
     bytes: &mut Vec<u8>,
@@ -155,7 +134,8 @@ fn append_others(
         → most < length bytes.old.items + length (flat_map (next_text (variables_at stacks.now a) pools.now) parts.now) }
 {
     for part in parts {
-        append_next(bytes, most, stacks, pools, a, part)?;
+        append(bytes, most, b".")?;
+        append_part(bytes, most, stacks, pools, a, part)?;
     }
     Ok(())
 }
