@@ -21,8 +21,8 @@ Samdrulka, a proved interpreter for Open Object Rexx (whole-number profile)
   ./rexx --help              prints this
   ./rexx --version           prints the commit and the toolchain
 
-FILE is absolute, or from the working directory on. The first run proves and builds the program, which takes about half an
-hour. The trial build is there in about a minute, and runs some 300 times slower.
+FILE is absolute, or from the working directory on. The first run proves and builds the program, which takes about an hour.
+The trial build is there in about a minute, and runs some 300 times slower.
 
 Status  When
      0  the run ended, and no error ended the main program; or the source that was checked is a program
@@ -87,7 +87,7 @@ attend() {
 }
 
 prove() {
-    say 'proving and building the program, which takes about half an hour the first time;' \
+    say 'proving and building the program, which takes about an hour the first time;' \
         './rexx --unproved has it in about a minute, with nothing proved'
     attend rt run
     # The build ends with a run without words, which the program refuses.
