@@ -1,0 +1,11 @@
+pub mod Rules
+pub mod Todo
+pub mod Spots
+pub mod Kept
+pub mod Places
+pub mod Stands
+pub mod Finds
+pub mod Looks
+pub mod Labels
+pub mod Flats
+pub mod Laid
