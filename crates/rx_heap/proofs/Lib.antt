@@ -1,0 +1,3 @@
+pub mod ArrayLemmas
+pub mod DirectoryLemmas
+pub mod ObjectLemmas
