@@ -4,5 +4,11 @@ pub mod ConditionLemmas
 pub mod ReadingLemmas
 pub mod InstallLemmas
 pub mod SoundLemmas
+pub mod SizeLemmas
+pub mod Widths
+pub mod Rooms
+pub mod ClauseRooms
+pub mod BodyRooms
+pub mod ProgramRooms
 pub mod ProgramLemmas
 pub mod ValidLemmas

@@ -1,14 +1,11 @@
 -- Why a source is no program, and that it is one at most.
-use Rattle.std.proofs.Common.{◌≡◌, ℕ, ◌+◌, ◌≤◌, ◌<◌, ◌^◌, List, [], ◌∷◌, ◌++◌, length, refl, sym, ◌∙◌, ap, subst, arith}
+use Rattle.std.proofs.Common.{◌≡◌, ℕ, ◌≤◌, ◌<◌, ◌^◌, List, length, refl, sym, ◌∙◌, ap, subst, arith}
 use Rattle.std.specs.Str.Lines.{lines}
 use Rattle.rx_tree.specs.declared.class.ClassDef.{ClassDef}
 use Rattle.rx_clause_tree.specs.declared.clause.Body.{Body}
 use Rattle.rx_clause_tree.specs.declared.package.Package.{Package}
 use Rattle.rx_directives.specs.declared.directive.Directive.{Directive}
-use Rattle.rx_directives.specs.declared.directive.DirectiveKind.{DirectiveKind}
-use Rattle.rx_directives.specs.declared.directive.DirectiveKind.TheVariants as d
-use Rattle.rx_directives.specs.Packages.{body_count, methods_of, kind_classes, bodies_of, classes_of, routines_of}
-use Rattle.rx_tree.specs.declared.class.MethodDef.{MethodDef}
+use Rattle.rx_directives.specs.Packages.{bodies_of, classes_of, routines_of}
 use Rattle.rx_classes.specs.Installing.{CanInstall}
 use Rattle.rx_install.specs.Installation.{IsInstallationOrder}
 use Rattle.rx_install.proofs.OrderLemmas.{one-order}
@@ -17,6 +14,7 @@ use Rattle.rx_packages.specs.declared.refused.SourceRefused.TheVariants as e
 use Rattle.rx_packages.specs.Programs.{longest_source, IsWritten, AreSound, IsProgram}
 use Rattle.rx_packages.specs.Refusals.{IsStopped, IsUnread, IsRefused, NoneInstall, IsNoProgram}
 use Rattle.rx_packages.proofs.ReadingLemmas.{one-written, at-line}
+use Rattle.rx_packages.proofs.ProgramRooms.{class-count}
 
 -- a cause of a cause
 pub stopped : (source : List ℕ) (cause other : Type 0) (refused : SourceRefused) → (cause → other) → IsStopped source cause refused → IsStopped source other refused
@@ -77,27 +75,11 @@ is_program source main directives program written sound is_main bodies order cla
   lines = is_lines;
 }
 
-few-kind : (line : ℕ) (kind : DirectiveKind) (methods : List MethodDef) (others : List ClassDef) → length (kind_classes line kind methods ++ others) ≤ length others + 1
-few-kind line (d.Class head) methods others = omega arith
-few-kind line (d.Method name options body) methods others = omega arith
-few-kind line (d.Attribute named options body) methods others = omega arith
-few-kind line (d.Constant name value) methods others = omega arith
-few-kind line (d.Routine name body) methods others = omega arith
-
--- There are no more classes than directives.
-pub few-classes : (n : ℕ) (directives : List Directive) → length (classes_of n directives) ≤ length directives
-few-classes n [] = omega arith
-few-classes n (directive ∷ directives) =
-    let others : length (classes_of (n + body_count directive.kind) directives) ≤ length directives = few-classes (n + body_count directive.kind) directives in
-    let first = few-kind directive.line directive.kind (methods_of n directives) (classes_of (n + body_count directive.kind) directives) in
-    let more : length (directive ∷ directives) ≡ length directives + 1 = omega arith in
-    omega arith
-
 pub few_installed : (directives : List Directive) (classes : List ClassDef) → classes ≡ classes_of 0 directives → length directives ≤ longest_source
     → length classes < 2 ^ 31
 few_installed directives classes is few =
     let same : length classes ≡ length (classes_of 0 directives) = ap (λ (cs : List ClassDef). length cs) is in
-    let fewer : length (classes_of 0 directives) ≤ length directives = few-classes 0 directives in
+    let fewer : length (classes_of 0 directives) ≤ length directives = class-count 0 directives in
     let most : 2 ^ 31 ≡ 2147483648 = refl in
     omega arith
 

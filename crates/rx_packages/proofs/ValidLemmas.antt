@@ -16,6 +16,7 @@ use Rattle.rx_directives.specs.Packages.{attribute_bodies, kind_bodies, made_by,
 use Rattle.rx_install.proofs.OrderLemmas.{order-of_all}
 use Rattle.rx_packages.specs.Programs.{IsProgram}
 use Rattle.rx_packages.specs.Validity.{HasBodies, IsValid}
+use Rattle.rx_packages.proofs.ProgramRooms.{few-parts, few-classes}
 
 -- the body of a method is below this number
 abbrev Below : ℕ → MethodDef → Type 0
@@ -132,4 +133,6 @@ valid-program source program is =
       routines = subst (λ (rs : List (List ℕ × ℕ)). All (RoutineBelow (length program.bodies)) rs) (sym is.routines)
           (all-routines (length program.bodies) 0 is.directives within);
       classes = is.classes;
+      few_parts = few-parts source program is;
+      few_classes = few-classes source program is;
     }

@@ -83,10 +83,6 @@ fn make(
     ensures ok { IfOk result (IsProgram source.now) }
     ensures err { IfErr result (IsStopped source.now (IsNoProgram source.now)) }
 {
-    // A source has fewer tokens than that.
-    if directives.len() > LONGEST_SOURCE {
-        return Err(SourceRefused::OutOfMemory);
-    }
     let classes = match installed(alloc, source, directives.as_slice()) {
         Ok(classes) => classes,
         Err(refused) => return Err(refused),
