@@ -387,14 +387,6 @@ laid_both c0 c2 c3 c5 c6 c7 clause test number at jump one one_now other other_n
     refl n refl a h2 (subst (λ z. Laid c2 c3 (plan z)) o first) j refl behind h5 (subst (λ z. Laid c5 c6 (plan z)) p second) refl h7)
 
 -- The arms of a SELECT with an OTHERWISE.
-pub laid_empty : (c0 c1 : Code) (clause : Clause) (whens : List When) (others others_now : List Clause) (last : Option (List Clause))
-    → clause.kind ≡ kind.Select whens last → last ≡ Some others → others_now ≡ others → length whens ≡ 0
-    → Laid c0 c1 (plan (made clause.line (kind.Select [] (Some others_now)))) → Laid c0 c1 (plan clause)
-laid_empty c0 c1 clause [] others others_now last k l o e laid =
-    laid_as c0 c1 clause (kind.Select [] (Some others)) (k ∙ ap (λ (z : Option (List Clause)). kind.Select [] z) l)
-    (subst (λ z. Laid c0 c1 (plan (made clause.line (kind.Select [] (Some z))))) o laid)
-laid_empty c0 c1 clause (when ∷ whens) others others_now last k l o e laid = absurd (omega arith)
-
 pub laid_whole_select : (c0 c1 c2 c3 c4 : Code) (clause : Clause) (number exit : ℕ) (whens whens_now : List When) (others others_now : List Clause) (last : Option (List Clause))
     → clause.kind ≡ kind.Select whens last → last ≡ Some others → whens_now ≡ whens → others_now ≡ others → (length whens ≡ 0 → ⊥)
     → Opened c0 c1 (kept_select clause.line (Some [])) number exit → LaidWhens exit c1 c2 clause.line whens_now → Laid c2 c3 (plans others_now)

@@ -65,7 +65,8 @@ fn look_at_jump(code: &Code, body: &Body, place: u32, to: u32) -> Look
 
 // A clause stands here.
 fn clause(at: u32, number: u32, next: u32, otherwise: u32) -> Look
-    ensures { result ≡ look.Stands (record { at = at; number = number; next = next; otherwise = otherwise }) }
+    ensures { result ≡ look.Stands
+        (record { at = at; number = number; next = next; otherwise = otherwise }) }
 {
     Look::Stands(Found {
         at,

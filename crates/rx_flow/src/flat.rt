@@ -114,7 +114,8 @@ impl Flat {
 
     /// The place behind the first label of a name.
     pub fn label_place(&self, name: &[u8]) -> Option<u32>
-        ensures { after_label name.now self.now.clauses ≡ option_map (left_at self.now.clauses) result }
+        ensures { after_label name.now self.now.clauses
+            ≡ option_map (left_at self.now.clauses) result }
     {
         self.labels.get(name).copied()
     }

@@ -41,7 +41,8 @@ fn open_select(
     line: u32,
     otherwise: bool,
 ) -> Result<Pending, OutOfMemory>
-    ensures { IfOk result (λ exit. Opened code.old code.new (select_of line otherwise) exit.number exit.place) }
+    ensures { IfOk result
+        (λ exit. Opened code.old code.new (select_of line otherwise) exit.number exit.place) }
 {
     let number = next_number(code)?;
     keep(code, kept_select(alloc, line, otherwise))?;
@@ -58,7 +59,8 @@ fn open_select(
 fn open_test(alloc: Global, code: &mut Code, line: u32, test: &Expr) -> Result<Pending, OutOfMemory>
     ensures number { IfOk result (λ exit. exit.number ≡ length code.old.clauses) }
     ensures place { IfOk result (λ exit. exit.place ≡ length code.old.ops) }
-    ensures code { OnOk result (code.new ≡ with_op (with_entry code.old (kept_test_of line test.now)) (op.Jump 0)) }
+    ensures code { OnOk result
+        (code.new ≡ with_op (with_entry code.old (kept_test_of line test.now)) (op.Jump 0)) }
 {
     let number = next_number(code)?;
     let clause = kept_test(alloc, line, test)?;
@@ -71,7 +73,8 @@ fn open_test(alloc: Global, code: &mut Code, line: u32, test: &Expr) -> Result<P
 // The test leads to the end of the code where it fails.
 fn close_test(code: &mut Code, test: Pending) -> Result<(), OutOfMemory>
     requires { test.place < length code.old.ops }
-    ensures { OnOk result (code.new ≡ with_set code.old test.place (op.Test test.number (length code.old.ops))) }
+    ensures { OnOk result
+        (code.new ≡ with_set code.old test.place (op.Test test.number (length code.old.ops))) }
 {
     let end = here(code)?;
     patch(code, test.place, Op::Test(test.number, end));
@@ -82,7 +85,9 @@ fn close_test(code: &mut Code, test: Pending) -> Result<(), OutOfMemory>
 fn split_test(code: &mut Code, test: Pending) -> Result<u32, OutOfMemory>
     requires { test.place < length code.old.ops }
     ensures jump { IfOk result (λ jump. jump ≡ length code.old.ops) }
-    ensures code { OnOk result (code.new ≡ with_set (with_op code.old (op.Jump 0)) test.place (op.Test test.number (length code.old.ops + 1))) }
+    ensures code { OnOk result
+        (code.new ≡ with_set
+        (with_op code.old (op.Jump 0)) test.place (op.Test test.number (length code.old.ops + 1))) }
 {
     let jump = here(code)?;
     put(code, Op::Jump(0))?;
@@ -109,7 +114,8 @@ fn flatten_if(
     line: u32,
     test: &Expr,
 ) -> Result<(), OutOfMemory>
-    ensures { OnOk result (Laid code.old code.new (plan (made line (kind.If test.now chosen.now None)))) }
+    ensures { OnOk result
+        (Laid code.old code.new (plan (made line (kind.If test.now chosen.now None)))) }
 {
     let pending = open_test(alloc, code, line, test)?;
     flatten_clause(alloc, code, chosen)?;
@@ -186,7 +192,8 @@ fn flatten_otherwise(
     clauses: &[Clause],
     line: u32,
 ) -> Result<(), OutOfMemory>
-    ensures { OnOk result (Laid code.old code.new (plan (made line (kind.Select [] (Some clauses.now))))) }
+    ensures { OnOk result
+        (Laid code.old code.new (plan (made line (kind.Select [] (Some clauses.now))))) }
 {
     let number = next_number(code)?;
     keep(code, kept_select(alloc, line, true))?;
@@ -203,7 +210,8 @@ fn flatten_loop(
     header: &Header,
     test: &Test,
 ) -> Result<(), OutOfMemory>
-    ensures { OnOk result (Laid code.old code.new (plan (made line (kind.Loop header.now test.now clauses.now)))) }
+    ensures { OnOk result
+        (Laid code.old code.new (plan (made line (kind.Loop header.now test.now clauses.now)))) }
 {
     let number = next_number(code)?;
     let clause = kept_loop(alloc, line, header, test)?;

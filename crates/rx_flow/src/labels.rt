@@ -26,7 +26,8 @@ pub fn label(clause: &Clause) -> Option<&Text>
 /// Puts the label that a clause may be into the table, with the place that comes next in the code. Of two labels with the
 /// same name the first one stays.
 pub fn note_label(code: &Code, labels: &mut Table<u32>, clause: &Clause) -> Result<(), OutOfMemory>
-    ensures { OnOk result (labels.new ≡ with_label (label_of (rule clause.now)) (length code.now.ops) labels.old) }
+    ensures { OnOk result
+        (labels.new ≡ with_label (label_of (rule clause.now)) (length code.now.ops) labels.old) }
 {
     match label(clause) {
         None => Ok(()),

@@ -29,11 +29,20 @@ impl Ended {
     }
 }
 
+/// What is chosen where a walk can go on in several ways.
+#[derive(Clone, Copy)]
+enum Choices<'a> {
+    /// The digits, one after the other.
+    Digits(&'a [u8]),
+    /// This number each time.
+    Always(u64),
+}
+
 /// Where a walk is: its place, the loops that it is in, the innermost last, and the choices that are left.
-pub struct Walk<'a> {
+struct Walk<'a> {
     place: u32,
     loops: Vec<Loop>,
-    choices: &'a [u8],
+    choices: Choices<'a>,
 }
 
 impl<'a> Drop for Walk<'a> {
@@ -47,8 +56,8 @@ impl<'a> Drop for Walk<'a> {
 }
 
 impl<'a> Walk<'a> {
-    /// A walk that begins.
-    pub fn new(alloc: Global, choices: &'a [u8]) -> Walk<'a> {
+    // A walk that begins.
+    fn new(alloc: Global, choices: Choices<'a>) -> Walk<'a> {
         Walk {
             place: 0,
             loops: Vec::new(alloc),
@@ -58,11 +67,14 @@ impl<'a> Walk<'a> {
 
     // The next choice.
     fn choose(&mut self) -> Option<u64> {
-        let [first, others @ ..] = self.choices else {
-            return None;
-        };
-        self.choices = others;
-        Some(u64::from(first.saturating_sub(b'0')))
+        match self.choices {
+            Choices::Digits([first, others @ ..]) => {
+                self.choices = Choices::Digits(others);
+                Some(u64::from(first.saturating_sub(b'0')))
+            }
+            Choices::Digits([]) => None,
+            Choices::Always(choice) => Some(choice),
+        }
     }
 
     // A turn of the innermost loop, or its end.
@@ -171,7 +183,7 @@ fn step(
 
 /// The lines of the clauses that are done, and how the walk ends.
 pub fn tell_walk(alloc: Global, flat: &Flat, choices: &[u8]) -> Result<String, AllocError> {
-    let mut walk = Walk::new(alloc, choices);
+    let mut walk = Walk::new(alloc, Choices::Digits(choices));
     let mut lines = Vec::new(alloc);
     for _ in 0..MOST_STEPS {
         if let Some(ended) = step(alloc, flat, &mut walk, &mut lines)? {
@@ -184,4 +196,16 @@ pub fn tell_walk(alloc: Global, flat: &Flat, choices: &[u8]) -> Result<String, A
         }
     }
     String::from_str(alloc, "too many steps")
+}
+
+/// How many clauses are done in so many steps at most, where each test holds and each loop has 4,294,967,295 turns.
+pub fn tell_steps(alloc: Global, flat: &Flat, most: u32) -> Result<String, AllocError> {
+    let mut walk = Walk::new(alloc, Choices::Always(u64::from(u32::MAX)));
+    let mut lines = Vec::new(alloc);
+    for _ in 0..most {
+        if let Some(ended) = step(alloc, flat, &mut walk, &mut lines)? {
+            return format!(in alloc; "{} clauses, {}", lines.len(), ended.word());
+        }
+    }
+    format!(in alloc; "{} clauses, and more", lines.len())
 }
