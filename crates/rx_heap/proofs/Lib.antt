@@ -1,3 +1,3 @@
 pub mod ArrayLemmas
-pub mod DirectoryLemmas
+pub mod StampLemmas
 pub mod ObjectLemmas

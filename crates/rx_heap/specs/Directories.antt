@@ -8,3 +8,8 @@ use Rattle.rx_tree.specs.declared.value.Value.{Value}
 abbrev pub without_name : List (List ℕ × Value) → List ℕ → List (List ℕ × Value)
 without_name [] name = []
 without_name (entry ∷ entries) name = if bytes_eq name entry.0 then entries else entry ∷ without_name entries name
+
+-- the names, in order
+abbrev pub names_of : List (List ℕ × Value) → List (List ℕ)
+names_of [] = []
+names_of (entry ∷ entries) = entry.0 ∷ names_of entries

@@ -2,6 +2,7 @@ pub mod Objects
 pub mod Arrays
 pub mod Places
 pub mod Counts
+pub mod Stamps
 pub mod Directories
 pub mod Kept
 pub mod ObjectLends

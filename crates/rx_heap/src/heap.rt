@@ -1,11 +1,11 @@
 // The objects of a run.
 ghost use Rattle.std.specs.Prelude.{◌≡◌, ◌+◌, ◌-◌, ◌<◌, ◌≤◌, ◌++◌, ◌↔◌, [], ◌∷◌, length, drop, slice_get, IfOk, OnErr, OnOk, Ok, Err};
 ghost use Rattle.std.specs.Borrow.{sem};
-ghost use Rattle.std.specs.Option.{option_copied, option_map};
+ghost use Rattle.std.specs.Option.{option_copied};
 ghost use Rattle.rx_tree.specs.Object.{Line, Message, Names, Places};
 ghost use Rattle.rx_vars.specs.Tables.{look_up, with_entry};
 ghost use Rattle.rx_heap.specs.Arrays.{item_count, item_in, most_places, with_item, with_size, without_item};
-ghost use Rattle.rx_heap.specs.Directories.{without_name};
+ghost use Rattle.rx_heap.specs.Directories.{names_of, without_name};
 ghost use Rattle.rx_heap.specs.Kept.{sending};
 ghost use Rattle.rx_heap.specs.Objects.{IsObject, IsOfKind, class_at, contents_at, entries_at, first_objects, items_at, kind_by, most_objects, new_object, object_at, places_at, with_contents};
 
@@ -16,6 +16,7 @@ use crate::message::MessageRow;
 use crate::object::Object;
 use crate::queue::Queue;
 use rx_tree::{OutOfMemory, Text, Value};
+use sqlite_items::Items;
 use std::alloc::Global;
 use std::marker::Model;
 
@@ -29,8 +30,8 @@ pub enum HeapRefused {
 
 /// The objects of a run, with what each holds. Contracts see the list of them; an object's number is its place, from 1.
 ///
-/// Each call takes a time that doesn't grow with the number of objects, nor with what they hold, but for one: to take a
-/// name of a Directory away takes one that grows with the number of its names.
+/// No call takes a time that grows with the number of objects, nor with what they hold, but for the list of a Directory's
+/// names. To put a name and to take one away take the logarithm of their number.
 pub struct Heap {
     alloc: Global,
     objects: Vec<Object>,
@@ -297,13 +298,12 @@ impl Heap {
         self.objects[o as usize - 1].directory_remove(name)
     }
 
-    /// The name at a place of a Directory, from 1, with its value, if there is one.
-    pub fn directory_at(&self, o: u32, k: u32) -> Option<(&[u8], &Value)>
+    /// The names of a Directory in order, or want of memory. It takes the time of their number.
+    pub fn directory_names(&self, o: u32) -> Result<Items<Text>, OutOfMemory>
         requires directory { IsOfKind self.now o Kind.Directory }
-        requires place { 0 < k }
-        ensures entry { option_map (λ entry. (entry.0.now, entry.1.now)) result ≡ slice_get (entries_at self.now o) (k - 1) }
+        ensures names { IfOk result (λ names. names ≡ names_of (entries_at self.now o)) }
     {
-        self.directory(o).at(k as usize - 1)
+        self.directory(o).names()
     }
 
     /// How many names a Directory has.

@@ -6,9 +6,7 @@ ghost use Rattle.rx_heap.specs.Objects.{IsObject, IsOfKind};
 
 use crate::line::Line;
 use crate::rows::{change_row, told_row};
-use crate::told::{
-    kind_name, told_bytes, told_item, told_number, told_taken, told_value, told_word,
-};
+use crate::told::{kind_name, told_bytes, told_item, told_number, told_taken, told_word};
 use rx_heap::{Heap, HeapRefused, Kind, OutOfMemory};
 use std::alloc::Global;
 
@@ -137,14 +135,13 @@ impl HeapCases {
     fn entry(&self, alloc: Global, o: u32, place: u32) -> Result<String, OutOfMemory>
         requires { IsOfKind self.now.heap o Kind.Directory }
     {
-        match self.heap.directory_at(o, place.max(1)) {
-            Some((name, value)) => {
-                let name = told_bytes(alloc, name)?;
-                let value = told_value(alloc, value)?;
-                Ok(format!(in alloc; "{name} {value}")?)
-            }
-            None => told_word(alloc, "none"),
-        }
+        let names = self.heap.directory_names(o)?;
+        let Some(name) = names.as_slice().get(place.max(1) as usize - 1) else {
+            return told_word(alloc, "none");
+        };
+        let told = told_bytes(alloc, name.bytes())?;
+        let value = told_item(alloc, self.heap.directory_get(o, name.bytes()))?;
+        Ok(format!(in alloc; "{told} {value}")?)
     }
 
     // What a call on a Directory comes to.
