@@ -1,0 +1,11 @@
+use Rattle.std.proofs.Common.{◌≡◌, ◌-◌, ◌++◌, length, take, None}
+use Rattle.std.specs.Prelude.{replicate}
+use Rattle.rx_tree.specs.Object.{Places}
+use Rattle.rx_native.specs.Outcomes.{with_object}
+use Rattle.rx_native.proofs.array.make_array_with.Given as goal
+
+abbrev pub invariant-loop-argument : goal.invariant-loop-argument
+invariant-loop-argument l =
+    (l.i ≡ l.argument-index)
+    × (l.heap ≡ with_object l.fn.heap l.class
+    (Places (take l.argument-index l.args ++ replicate (length l.args - l.argument-index) None)))

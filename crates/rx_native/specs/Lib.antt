@@ -1,0 +1,12 @@
+pub mod Outcomes
+pub mod Arguments
+pub mod Targets
+pub mod Fitting
+pub mod ObjectMethods
+pub mod ClassMethods
+pub mod StringMethods
+pub mod ArrayMethods
+pub mod QueueMethods
+pub mod DirectoryMethods
+pub mod Methods
+pub mod Answers
