@@ -7,5 +7,9 @@ pub mod At
 pub mod Runs
 pub mod Built
 pub mod NamingLemmas
+pub mod NameLemmas
+pub mod NumberLemmas
+pub mod ValueLemmas
 pub mod Soundness
 pub mod BuiltinLemmas
+pub mod LawLemmas

@@ -1,11 +1,12 @@
 -- The texts of tail parts, one after the other, and the length of a tail.
-use Rattle.std.proofs.Common.{◌≡◌, ℕ, suc, ◌+◌, ◌-◌, ◌<◌, ◌≤◌, nat_le, true, false, if◌then◌else◌, List, [], ◌∷◌, ◌++◌, length, Result, Ok, Err, refl, ap, sym, ◌∙◌, append_assoc, arith, length-append}
+use Rattle.std.proofs.Common.{◌≡◌, ℕ, suc, ◌+◌, ◌-◌, ◌<◌, ◌≤◌, nat_le, Bool, true, false, if◌then◌else◌, List, [], ◌∷◌, ◌++◌, length, Option, Result, Ok, Err, refl, ap, sym, ◌∙◌, append_assoc, arith, length-append}
 use Rattle.std.proofs.lemmas.Bool.Decides.{nat_tests}
 use Rattle.std.proofs.lemmas.List.{append-nil}
 use Rattle.rx_tree.specs.Bytes.{longest}
+use Rattle.rx_tree.specs.declared.name.Derived.{Derived}
+use Rattle.rx_tree.specs.declared.value.Value.{Value}
 use Rattle.rx_tree.specs.declared.name.Derived.TheVariants.{Compound}
 use Rattle.rx_tree.specs.declared.name.Part.{Part}
-use Rattle.rx_eval.specs.declared.facts.Facts.{Facts}
 use Rattle.rx_eval.specs.declared.naming.Named.TheVariants.{Known, TooLong}
 use Rattle.rx_eval.specs.Reading.{behind_periods, compound, part_text, part_texts, with_text}
 
@@ -23,25 +24,25 @@ one_more found text (Ok texts) = ap Ok (append_assoc found (text ∷ []) texts)
 one_more found text (Err name) = refl
 
 -- one part more has its text
-pub texts_next : (facts : Facts) (parts rest : List Part) (part : Part) (found new : List (List ℕ)) (text : List ℕ) (all : Result (List (List ℕ)) (List ℕ))
-    → parts ≡ part ∷ rest → Ok text ≡ part_text facts part → new ≡ found ++ text ∷ [] → with_texts found (part_texts facts parts) ≡ all → with_texts new (part_texts facts rest) ≡ all
-texts_next facts parts rest part found new text all is t n h =
-    ap (λ found. with_texts found (part_texts facts rest)) n ∙ one_more found text (part_texts facts rest)
-    ∙ ap (λ t. with_texts found (with_text t (part_texts facts rest))) t
-    ∙ ap (λ parts. with_texts found (part_texts facts parts)) (sym is) ∙ h
+pub texts_next : (novalue : Bool) (value : Derived → Option Value) (parts rest : List Part) (part : Part) (found new : List (List ℕ)) (text : List ℕ) (all : Result (List (List ℕ)) (List ℕ))
+    → parts ≡ part ∷ rest → Ok text ≡ part_text novalue value part → new ≡ found ++ text ∷ [] → with_texts found (part_texts novalue value parts) ≡ all → with_texts new (part_texts novalue value rest) ≡ all
+texts_next novalue value parts rest part found new text all is t n h =
+    ap (λ found. with_texts found (part_texts novalue value rest)) n ∙ one_more found text (part_texts novalue value rest)
+    ∙ ap (λ t. with_texts found (with_text t (part_texts novalue value rest))) t
+    ∙ ap (λ parts. with_texts found (part_texts novalue value parts)) (sym is) ∙ h
 
 -- a part stands for nothing
-pub texts_end : (facts : Facts) (parts rest : List Part) (part : Part) (found : List (List ℕ)) (name : List ℕ) (all : Result (List (List ℕ)) (List ℕ))
-    → parts ≡ part ∷ rest → Err name ≡ part_text facts part → with_texts found (part_texts facts parts) ≡ all → Err name ≡ all
-texts_end facts parts rest part found name all is t h =
-    ap (λ t. with_texts found (with_text t (part_texts facts rest))) t
-    ∙ ap (λ parts. with_texts found (part_texts facts parts)) (sym is) ∙ h
+pub texts_end : (novalue : Bool) (value : Derived → Option Value) (parts rest : List Part) (part : Part) (found : List (List ℕ)) (name : List ℕ) (all : Result (List (List ℕ)) (List ℕ))
+    → parts ≡ part ∷ rest → Err name ≡ part_text novalue value part → with_texts found (part_texts novalue value parts) ≡ all → Err name ≡ all
+texts_end novalue value parts rest part found name all is t h =
+    ap (λ t. with_texts found (with_text t (part_texts novalue value rest))) t
+    ∙ ap (λ parts. with_texts found (part_texts novalue value parts)) (sym is) ∙ h
 
 -- all parts have their texts
-pub texts_all : (facts : Facts) (parts : List Part) (found : List (List ℕ)) (all : Result (List (List ℕ)) (List ℕ))
-    → parts ≡ [] → with_texts found (part_texts facts parts) ≡ all → Ok found ≡ all
-texts_all facts parts found all is h =
-    ap Ok (sym (append-nil found)) ∙ ap (λ parts. with_texts found (part_texts facts parts)) (sym is) ∙ h
+pub texts_all : (novalue : Bool) (value : Derived → Option Value) (parts : List Part) (found : List (List ℕ)) (all : Result (List (List ℕ)) (List ℕ))
+    → parts ≡ [] → with_texts found (part_texts novalue value parts) ≡ all → Ok found ≡ all
+texts_all novalue value parts found all is h =
+    ap Ok (sym (append-nil found)) ∙ ap (λ parts. with_texts found (part_texts novalue value parts)) (sym is) ∙ h
 
 -- ---- a tail
 

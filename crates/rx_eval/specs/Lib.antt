@@ -1,8 +1,11 @@
+pub mod Values
 pub mod Reading
 pub mod Naming
 pub mod Calling
 pub mod Evaluation
 pub mod Places
+pub mod Names
+pub mod Numbers
 pub mod Machine
 pub mod Steps
 pub mod Sound
@@ -11,3 +14,4 @@ pub mod Built
 pub mod Code
 pub mod Computed
 pub mod Answers
+pub mod Laws

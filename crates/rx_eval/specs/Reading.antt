@@ -1,5 +1,5 @@
 -- What names come to: variables, environment symbols, and the symbols behind which a class stands.
-use Rattle.std.specs.Prelude.{ℕ, ◌==◌, ◌&&◌, nat_le, Bool, true, false, if◌then◌else◌, List, [], ◌∷◌, ◌++◌, length, codes, decimal, Option, Some, None, Result, Ok, Err}
+use Rattle.std.specs.Prelude.{ℕ, ◌==◌, nat_le, Bool, true, false, if◌then◌else◌, List, [], ◌∷◌, ◌++◌, length, codes, decimal, Option, Some, None, Result, Ok, Err}
 use Rattle.std.specs.Str.{bytes_eq}
 use Rattle.rx_tree.specs.Bytes.{longest}
 use Rattle.rx_tree.specs.declared.name.Derived.{Derived}
@@ -17,25 +17,12 @@ use Rattle.rx_eval.specs.declared.naming.Named.{Named}
 use Rattle.rx_eval.specs.declared.naming.Named.TheVariants.{Known, Missing, TooLong}
 use Rattle.rx_eval.specs.declared.reading.Reading.{Reading}
 use Rattle.rx_eval.specs.declared.reading.Reading.TheVariants as r
+use Rattle.rx_eval.specs.Values.{read}
 
 -- What expressions are evaluated over: what is fixed for the body in which they stand, and what it reads besides.
 pub record Scene : Type 0 where
   pub body : Body
   pub facts : Facts
-
--- ---- the values that were read
-
--- whether two names are one
-abbrev pub same_name : Derived → Derived → Bool
-same_name (d.Simple a) (d.Simple b) = bytes_eq a b
-same_name (d.Stem a) (d.Stem b) = bytes_eq a b
-same_name (d.Compound a s) (d.Compound b t) = bytes_eq a b && bytes_eq s t
-same_name _ _ = false
-
--- the value of a name, if it has one
-abbrev pub read : List (Derived × Option Value) → Derived → Option Value
-read [] name = None
-read (entry ∷ reads) name = if same_name entry.0 name then entry.1 else read reads name
 
 -- ---- names with the values of their tail parts in place of these
 
@@ -51,9 +38,9 @@ or_own novalue name (Some value) = Ok (value_text value)
 or_own true name None = Err name
 or_own false name None = Ok name
 
-abbrev pub part_text : Facts → Part → Result (List ℕ) (List ℕ)
-part_text facts (Fixed text) = Ok text
-part_text facts (Of name) = or_own facts.novalue name (read facts.reads (d.Simple name))
+abbrev pub part_text : Bool → (Derived → Option Value) → Part → Result (List ℕ) (List ℕ)
+part_text novalue value (Fixed text) = Ok text
+part_text novalue value (Of name) = or_own novalue name (value (d.Simple name))
 
 -- the texts of all parts, or the first variable that stands for nothing
 abbrev pub with_text : Result (List ℕ) (List ℕ) → Result (List (List ℕ)) (List ℕ) → Result (List (List ℕ)) (List ℕ)
@@ -61,9 +48,9 @@ with_text (Ok text) (Ok texts) = Ok (text ∷ texts)
 with_text (Ok text) (Err name) = Err name
 with_text (Err name) texts = Err name
 
-abbrev pub part_texts : Facts → List Part → Result (List (List ℕ)) (List ℕ)
-part_texts facts [] = Ok []
-part_texts facts (part ∷ parts) = with_text (part_text facts part) (part_texts facts parts)
+abbrev pub part_texts : Bool → (Derived → Option Value) → List Part → Result (List (List ℕ)) (List ℕ)
+part_texts novalue value [] = Ok []
+part_texts novalue value (part ∷ parts) = with_text (part_text novalue value part) (part_texts novalue value parts)
 
 -- texts, each behind a period
 abbrev pub behind_periods : List (List ℕ) → List ℕ
@@ -89,11 +76,11 @@ abbrev pub compound_of : List ℕ → Result (List (List ℕ)) (List ℕ) → Na
 compound_of stem (Ok texts) = compound stem (with_periods texts)
 compound_of stem (Err name) = Missing name
 
--- the derived name of a name
-abbrev pub derive : Facts → Name → Named
-derive facts (n.Simple name) = Known (d.Simple name)
-derive facts (n.Stem stem) = Known (d.Stem stem)
-derive facts (n.Compound stem parts) = compound_of stem (part_texts facts parts)
+-- the derived name of a name, where variables have these values
+abbrev pub derive : Bool → (Derived → Option Value) → Name → Named
+derive novalue value (n.Simple name) = Known (d.Simple name)
+derive novalue value (n.Stem stem) = Known (d.Stem stem)
+derive novalue value (n.Compound stem parts) = compound_of stem (part_texts novalue value parts)
 
 -- ---- what a name comes to
 
@@ -110,7 +97,7 @@ named facts TooLong = r.Raises 5
 
 -- a variable
 abbrev pub variable : Facts → Name → Reading
-variable facts name = named facts (derive facts name)
+variable facts name = named facts (derive facts.novalue (read facts.reads) name)
 
 -- an environment symbol: the object that it names; else `.TRUE` and `.FALSE` are 1 and 0, and another is its own spelling
 abbrev pub environment : List ℕ → Option ℕ → Value

@@ -5,13 +5,13 @@ ghost use Rattle.rx_eval.specs.Whole.{AppendsArgs, AppendsOpers, AppendsParts, A
 use crate::building::{callee, calling_of, object_named, sending_of, wants_strings};
 use crate::code::{Form, Instr};
 use crate::facts::Body;
+use crate::listing::Listing;
 use rx_operators::is_join;
 use rx_tree::{Expr, Oper, OutOfMemory, SendPart};
-use sqlite_items::Items;
 use std::alloc::Global;
 
 // A string is wanted of the left operand of a join.
-fn want_left(code: &mut Items<Instr>, oper: Oper) -> Result<(), OutOfMemory>
+fn want_left(code: &mut Listing, oper: Oper) -> Result<(), OutOfMemory>
     ensures { OnOk result (WantsLeft oper code.old code.new) }
 {
     if is_join(oper) {
@@ -21,7 +21,7 @@ fn want_left(code: &mut Items<Instr>, oper: Oper) -> Result<(), OutOfMemory>
 }
 
 // Operators in front of what was appended last, the outermost one last.
-fn append_opers(code: &mut Items<Instr>, opers: &[Oper]) -> Result<(), OutOfMemory>
+fn append_opers(code: &mut Listing, opers: &[Oper]) -> Result<(), OutOfMemory>
     ensures { OnOk result (AppendsOpers opers.now code.old code.new) }
 {
     let mut at = opers.len();
@@ -36,7 +36,7 @@ fn append_opers(code: &mut Items<Instr>, opers: &[Oper]) -> Result<(), OutOfMemo
 fn append_terms(
     alloc: Global,
     body: &Body,
-    code: &mut Items<Instr>,
+    code: &mut Listing,
     terms: &[(Oper, Expr)],
 ) -> Result<(), OutOfMemory>
     ensures { OnOk result (AppendsTerms body.now terms.now code.old code.new) }
@@ -53,7 +53,7 @@ fn append_terms(
 fn append_args(
     alloc: Global,
     body: &Body,
-    code: &mut Items<Instr>,
+    code: &mut Listing,
     args: &[Option<Expr>],
     strings: bool,
 ) -> Result<(), OutOfMemory>
@@ -71,7 +71,7 @@ fn append_args(
 fn append_parts(
     alloc: Global,
     body: &Body,
-    code: &mut Items<Instr>,
+    code: &mut Listing,
     parts: &[SendPart],
 ) -> Result<(), OutOfMemory>
     ensures { OnOk result (AppendsParts body.now parts.now code.old code.new) }
@@ -86,12 +86,7 @@ fn append_parts(
 
 /// Appends the code of an expression.
 #[cycle(append)]
-fn append(
-    alloc: Global,
-    body: &Body,
-    code: &mut Items<Instr>,
-    expr: &Expr,
-) -> Result<(), OutOfMemory>
+fn append(alloc: Global, body: &Body, code: &mut Listing, expr: &Expr) -> Result<(), OutOfMemory>
     ensures { OnOk result (AppendsTree body.now expr.now false code.old code.new) }
 {
     match expr {
@@ -147,7 +142,7 @@ fn append(
 pub(crate) fn append_tree(
     alloc: Global,
     body: &Body,
-    code: &mut Items<Instr>,
+    code: &mut Listing,
     expr: &Expr,
     string: bool,
 ) -> Result<(), OutOfMemory>

@@ -46,7 +46,7 @@ pub(crate) fn compute_from(
     let mut at = place;
     while let Some(instr) = item_at(code.as_slice(), at) {
         let next = at + 1;
-        match execute(alloc, facts, instr, &mut stack)? {
+        match execute(alloc, facts, code.numbers(at), instr, &mut stack)? {
             Step::Next => at = next,
             Step::Raises(number) => return Ok(Computed::Raise(number)),
             Step::Lacks(name) => return Ok(Computed::NoValue(name)),

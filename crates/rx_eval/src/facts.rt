@@ -1,7 +1,6 @@
 // What expressions are evaluated over.
-use rx_tree::{Derived, Value};
+use crate::reads::Reads;
 use rx_vars::Table;
-use sqlite_items::Items;
 
 /// What is fixed for a body, and shared by the code of all its clauses.
 pub struct Body {
@@ -24,8 +23,9 @@ impl Drop for Body {
 pub struct Facts {
     /// What built-in functions read, DIGITS among it.
     pub frame: rx_builtin::Facts,
-    /// The values of the variables that the code names. One that has none has no value here.
-    pub reads: Items<(Derived, Option<Value>)>,
+    /// The values of the variables that the code names. One that has none has no value here. They are found at once where they
+    /// stand in the order of the code's names.
+    pub reads: Reads,
     /// Whether a variable without a value raises NOVALUE.
     pub novalue: bool,
 }

@@ -39,6 +39,35 @@ impl Drop for Job {
     }
 }
 
+impl Job {
+    /// The job from another place on, where these values stand.
+    pub fn from_place(self, place: usize, values: Items<Value>) -> Job
+        ensures place { result.place ≡ place }
+        ensures values { result.values ≡ values }
+        ensures code { result.code ≡ self.code }
+        ensures facts { result.facts ≡ self.facts }
+        ensures activity { result.activity ≡ self.activity }
+        ensures claim { result.claim ≡ self.claim }
+    {
+        let Job {
+            activity,
+            claim,
+            code,
+            place: _,
+            values: _,
+            facts,
+        } = self;
+        Job {
+            activity,
+            claim,
+            code,
+            place,
+            values,
+            facts,
+        }
+    }
+}
+
 /// A job with what it came to. Only [`compute`] makes one. Contracts see both.
 pub struct Answer {
     job: Job,

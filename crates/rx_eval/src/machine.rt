@@ -15,10 +15,11 @@ use crate::step::{Step, push_reading};
 use rx_tree::{OutOfMemory, Value};
 use std::alloc::Global;
 
-/// Does one instruction.
+/// Does one instruction. The values of the variables that it reads are sought at these places first.
 pub(crate) fn execute(
     alloc: Global,
     facts: &Facts,
+    places: &[usize],
     instr: &Instr,
     stack: &mut Pile<Value>,
 ) -> Result<Step, OutOfMemory>
@@ -33,7 +34,7 @@ pub(crate) fn execute(
             Ok(Step::Next)
         }
         Instr::Name(name) => {
-            let reading = variable(alloc, facts, name)?;
+            let reading = variable(alloc, facts, places, name)?;
             push_reading(stack, reading)
         }
         Instr::Environment(name, object) => {
@@ -47,7 +48,7 @@ pub(crate) fn execute(
             Some(right) => do_prefix(alloc, facts.frame.digits, *oper, right, stack),
         },
         Instr::Function(calling) => do_function(alloc, facts, calling, stack),
-        Instr::Send(sending) => do_send(alloc, facts, sending, stack),
+        Instr::Send(sending) => do_send(alloc, facts, places, sending, stack),
         Instr::Wanted => match stack.pop() {
             None => Ok(Step::Stuck),
             Some(value) => want_string(alloc, value, stack),

@@ -4,8 +4,9 @@ ghost use Rattle.std.specs.Option.{option_copied};
 ghost use Rattle.std.specs.Str.{bytes_eq};
 ghost use Rattle.rx_eval.specs.Reading as spec;
 ghost use Rattle.rx_eval.specs.Naming.{IsShort, Tails};
+ghost use Rattle.rx_eval.specs.Values as values;
 
-use crate::facts::Facts;
+use crate::reads::Reads;
 use itoa::Buffer;
 use rx_tree::{Derived, Name, OutOfMemory, Part, Text, Value};
 use sqlite_items::Items;
@@ -28,8 +29,9 @@ fn same_text(a: &Text, b: &Text) -> bool
     a.bytes() == b.bytes()
 }
 
-fn same_name(a: &Derived, b: &Derived) -> bool
-    ensures { result ≡ spec.same_name a.now b.now }
+/// Whether two names are one.
+pub(crate) fn same_name(a: &Derived, b: &Derived) -> bool
+    ensures { result ≡ values.same_name a.now b.now }
 {
     match (a, b) {
         (Derived::Simple(a), Derived::Simple(b)) | (Derived::Stem(a), Derived::Stem(b)) => {
@@ -38,18 +40,6 @@ fn same_name(a: &Derived, b: &Derived) -> bool
         (Derived::Compound(a, s), Derived::Compound(b, t)) => same_text(a, b) && same_text(s, t),
         _ => false,
     }
-}
-
-/// The value that was read for a name, if it has one.
-pub(crate) fn read<'a>(reads: &'a [(Derived, Option<Value>)], name: &Derived) -> Option<&'a Value>
-    ensures { option_copied result ≡ spec.read reads.now name.now }
-{
-    for entry in reads {
-        if same_name(&entry.0, name) {
-            return entry.1.as_ref();
-        }
-    }
-    None
 }
 
 // A value as a part of a tail.
@@ -88,8 +78,15 @@ fn or_own(
     }
 }
 
-fn part_text(alloc: Global, facts: &Facts, part: &Part) -> Result<Result<Text, Text>, OutOfMemory>
-    ensures { IfOk result (λ text. text ≡ spec.part_text facts.now part.now) }
+// What a part of a tail stands for. The value of a variable is sought at a place first.
+fn part_text(
+    alloc: Global,
+    novalue: bool,
+    reads: &Reads,
+    place: usize,
+    part: &Part,
+) -> Result<Result<Text, Text>, OutOfMemory>
+    ensures { IfOk result (λ text. text ≡ spec.part_text novalue (values.read reads.now) part.now) }
 {
     match part {
         Part::Fixed(text) => {
@@ -98,27 +95,30 @@ fn part_text(alloc: Global, facts: &Facts, part: &Part) -> Result<Result<Text, T
         }
         Part::Of(name) => {
             let variable = Derived::Simple(name.share()?);
-            or_own(
-                alloc,
-                facts.novalue,
-                name,
-                read(facts.reads.as_slice(), &variable),
-            )
+            or_own(alloc, novalue, name, reads.get(place, &variable))
         }
     }
 }
 
-// The texts of all parts, or the first variable that stands for nothing.
+// The texts of all parts, or the first variable that stands for nothing. The values of the variables are sought at these places
+// first.
 fn part_texts(
     alloc: Global,
-    facts: &Facts,
+    novalue: bool,
+    reads: &Reads,
+    places: &[usize],
     parts: &[Part],
 ) -> Result<Result<Items<Text>, Text>, OutOfMemory>
-    ensures { IfOk result (λ texts. texts ≡ spec.part_texts facts.now parts.now) }
+    ensures { IfOk result (λ texts. texts ≡ spec.part_texts novalue (values.read reads.now) parts.now) }
 {
+    let mut places = places.iter();
     let mut texts = Items::new(alloc);
     for part in parts {
-        match part_text(alloc, facts, part)? {
+        let place = match part {
+            Part::Of(_) => places.next().copied().unwrap_or(0),
+            Part::Fixed(_) => 0,
+        };
+        match part_text(alloc, novalue, reads, place, part)? {
             Ok(text) => texts.push(text)?,
             Err(name) => return Ok(Err(name)),
         }
@@ -176,17 +176,25 @@ fn compound(alloc: Global, stem: &Text, texts: &[Text]) -> Result<Named, OutOfMe
     }
 }
 
-/// What a name comes to once the values of its tail parts stand in place of these.
-pub(crate) fn derive(alloc: Global, facts: &Facts, name: &Name) -> Result<Named, OutOfMemory>
-    ensures name { IfOk result (λ named. named ≡ spec.derive facts.now name.now) }
+/// What a name comes to once the values of its tail parts stand in place of these. Each value is sought at a place first.
+pub(crate) fn derive(
+    alloc: Global,
+    novalue: bool,
+    reads: &Reads,
+    places: &[usize],
+    name: &Name,
+) -> Result<Named, OutOfMemory>
+    ensures name { IfOk result (λ named. named ≡ spec.derive novalue (values.read reads.now) name.now) }
     ensures short { IfOk result IsShort }
 {
     match name {
         Name::Simple(name) => Ok(Named::Known(Derived::Simple(name.share()?))),
         Name::Stem(stem) => Ok(Named::Known(Derived::Stem(stem.share()?))),
-        Name::Compound(stem, parts) => match part_texts(alloc, facts, parts.as_slice())? {
-            Ok(texts) => compound(alloc, stem, texts.as_slice()),
-            Err(name) => Ok(Named::Missing(name)),
-        },
+        Name::Compound(stem, parts) => {
+            match part_texts(alloc, novalue, reads, places, parts.as_slice())? {
+                Ok(texts) => compound(alloc, stem, texts.as_slice()),
+                Err(name) => Ok(Named::Missing(name)),
+            }
+        }
     }
 }

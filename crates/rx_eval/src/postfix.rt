@@ -1,14 +1,17 @@
 // Code in postfix order.
-ghost use Rattle.std.specs.Prelude.{◌≡◌, [], ◌∷◌, ◌++◌, true, OnErr, OnOk};
+ghost use Rattle.std.specs.Prelude.{◌≡◌, List, [], ◌∷◌, ◌++◌, true, IfOk, OnErr, OnOk};
 ghost use Rattle.std.specs.Arc.{arc_value};
+ghost use Rattle.rx_tree.specs.declared.value.Value.{Value};
 ghost use Rattle.rx_eval.specs.Code.{no_code};
-ghost use Rattle.rx_eval.specs.Places.{fits, trees_of};
+ghost use Rattle.rx_eval.specs.Names.{Lists, names_of_all};
+ghost use Rattle.rx_eval.specs.Places.{IsPlace, fits, partial, trees_of};
 ghost use Rattle.rx_eval.specs.Whole.{is_whole};
 
 use crate::appending::append_tree;
 use crate::code::Instr;
 use crate::facts::Body;
-use rx_tree::{Expr, OutOfMemory};
+use crate::listing::Listing;
+use rx_tree::{Expr, Name, OutOfMemory};
 use sqlite_items::Items;
 use std::alloc::Global;
 use std::marker::Model;
@@ -20,7 +23,7 @@ use std::sync::Arc;
 pub struct Postfix {
     alloc: Global,
     body: Arc<Body>,
-    instrs: Items<Instr>,
+    code: Listing,
 }
 
 impl Drop for Postfix {
@@ -28,7 +31,7 @@ impl Drop for Postfix {
         let Postfix {
             alloc: _,
             body: _,
-            instrs: _,
+            code: _,
         } = self;
     }
 }
@@ -41,9 +44,9 @@ impl Model for Postfix {
 
     ghost Value = { Code };
 
-    ghost view = { λ c. record { body = arc_value c.body; instrs = c.instrs } };
+    ghost view = { λ c. record { body = arc_value c.body; instrs = c.code } };
 
-    ghost invariant = { λ c. fits (arc_value c.body) c.instrs [] ≡ true };
+    ghost invariant = { λ c. fits (arc_value c.body) c.code [] ≡ true };
 }
 
 impl Postfix {
@@ -54,7 +57,7 @@ impl Postfix {
         Postfix {
             alloc,
             body,
-            instrs: Items::new(alloc),
+            code: Listing::new(alloc),
         }
     }
 
@@ -66,9 +69,9 @@ impl Postfix {
         ensures body { self.new.body ≡ self.old.body }
         ensures err { OnErr result (self.new.instrs ≡ []) }
     {
-        let mut instrs = mem::replace(&mut self.instrs, Items::new(self.alloc));
-        append_tree(self.alloc, &self.body, &mut instrs, expr, string)?;
-        self.instrs = instrs;
+        let mut code = mem::replace(&mut self.code, Listing::new(self.alloc));
+        append_tree(self.alloc, &self.body, &mut code, expr, string)?;
+        self.code = code;
         Ok(())
     }
 
@@ -77,6 +80,25 @@ impl Postfix {
         ensures value { result.now ≡ self.now.instrs }
         ensures whole { fits self.now.body result.now [] ≡ true }
     {
-        self.instrs.as_slice()
+        self.code.as_slice()
+    }
+    /// The names that the code reads. The number of one is its place here.
+    pub fn names(&self) -> &[Name]
+        ensures { Lists result.now self.now.instrs }
+    {
+        self.code.names()
+    }
+
+    /// The numbers of the names that the instruction at a place reads.
+    pub(crate) fn numbers(&self, place: usize) -> &[usize] {
+        self.code.numbers(place)
+    }
+
+    /// The names that are read from a place on. They are those of the trees for which it stands where values stand there.
+    pub fn names_from(&self, place: usize) -> Result<Items<Name>, OutOfMemory>
+        ensures { IfOk result (λ names. (values : List Value) → IsPlace self.now.instrs place values → names ≡ names_of_all (partial self.now.instrs place values)) }
+    {
+        let names = self.code.names_from(place)?;
+        Ok(names)
     }
 }

@@ -5,7 +5,7 @@ ghost use Rattle.rx_eval.specs.Naming.{HasRoom};
 ghost use Rattle.rx_eval.specs.Reading as spec;
 
 use crate::facts::Facts;
-use crate::naming::{Named, derive, read};
+use crate::naming::{Named, derive};
 use rx_tree::{Derived, Name, OutOfMemory, Text, Value};
 use std::alloc::Global;
 
@@ -60,14 +60,19 @@ fn or_spelling(
     }
 }
 
-/// What a variable comes to.
-pub(crate) fn variable(alloc: Global, facts: &Facts, name: &Name) -> Result<Reading, OutOfMemory>
+/// What a variable comes to. The values of the variables in its tail, and its own, are sought at these places first.
+pub(crate) fn variable(
+    alloc: Global,
+    facts: &Facts,
+    places: &[usize],
+    name: &Name,
+) -> Result<Reading, OutOfMemory>
     ensures { IfOk result (λ reading. reading ≡ spec.variable facts.now name.now) }
 {
-    match derive(alloc, facts, name)? {
+    match derive(alloc, facts.novalue, &facts.reads, places, name)? {
         Named::Known(name) => {
-            let value = read(facts.reads.as_slice(), &name);
-            or_spelling(alloc, facts.novalue, &name, value)
+            let place = places.last().copied().unwrap_or(0);
+            or_spelling(alloc, facts.novalue, &name, facts.reads.get(place, &name))
         }
         Named::Missing(name) => Ok(Reading::NoValue(name)),
         Named::TooLong => Ok(Reading::Raises(RESOURCES_EXHAUSTED)),
@@ -95,7 +100,8 @@ pub(crate) fn environment(
     Ok(Value::Str(text))
 }
 
-fn is_environment(name: &Text) -> bool
+/// Whether a symbol is an environment symbol.
+pub(crate) fn is_environment(name: &Text) -> bool
     ensures { result ≡ spec.is_environment name.now }
 {
     match name.bytes() {
@@ -104,10 +110,11 @@ fn is_environment(name: &Text) -> bool
     }
 }
 
-/// What the symbol of a class comes to, of which an object is known or none.
+/// What the symbol of a class comes to, of which an object is known or none. Its value is sought at these places first.
 pub(crate) fn symbol(
     alloc: Global,
     facts: &Facts,
+    places: &[usize],
     name: &Text,
     object: Option<u32>,
 ) -> Result<Reading, OutOfMemory>
@@ -116,5 +123,5 @@ pub(crate) fn symbol(
     if is_environment(name) {
         return Ok(Reading::Gives(environment(alloc, name, object)?));
     }
-    variable(alloc, facts, &Name::Simple(name.share()?))
+    variable(alloc, facts, places, &Name::Simple(name.share()?))
 }

@@ -39,13 +39,18 @@ fn class_of(class: Reading) -> Scope
     }
 }
 
-fn scope_of(alloc: Global, facts: &Facts, class: &Option<Class>) -> Result<Scope, OutOfMemory>
+fn scope_of(
+    alloc: Global,
+    facts: &Facts,
+    places: &[usize],
+    class: &Option<Class>,
+) -> Result<Scope, OutOfMemory>
     ensures { IfOk result (λ scope. (go : Option ℕ → Moved) → scoped scope go ≡ scope_moved facts.now class.now go) }
 {
     match class {
         None => Ok(Scope::At(None)),
         Some(class) => {
-            let class = symbol(alloc, facts, &class.name, class.object)?;
+            let class = symbol(alloc, facts, places, &class.name, class.object)?;
             Ok(class_of(class))
         }
     }
@@ -76,6 +81,7 @@ fn message(
 fn send(
     alloc: Global,
     facts: &Facts,
+    places: &[usize],
     sending: &Sending,
     args: Items<Option<Value>>,
     stack: &mut Pile<Value>,
@@ -85,17 +91,18 @@ fn send(
     let Some(target) = stack.pop() else {
         return Ok(Step::Stuck);
     };
-    match scope_of(alloc, facts, &sending.class)? {
+    match scope_of(alloc, facts, places, &sending.class)? {
         Scope::At(scope) => message(sending, args, target, scope, stack),
         Scope::Raises(number) => Ok(Step::Raises(number)),
         Scope::Lacks(class) => Ok(Step::Lacks(class)),
     }
 }
 
-/// Does a message of a message term.
+/// Does a message of a message term. The value of the symbol of a class is sought at these places first.
 pub(crate) fn do_send(
     alloc: Global,
     facts: &Facts,
+    places: &[usize],
     sending: &Sending,
     stack: &mut Pile<Value>,
 ) -> Result<Step, OutOfMemory>
@@ -103,6 +110,6 @@ pub(crate) fn do_send(
 {
     match pop_args(alloc, sending.shape.as_slice(), stack)? {
         None => Ok(Step::Stuck),
-        Some(args) => send(alloc, facts, sending, args, stack),
+        Some(args) => send(alloc, facts, places, sending, args, stack),
     }
 }

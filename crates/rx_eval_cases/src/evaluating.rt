@@ -8,7 +8,7 @@ use crate::telling::{tell_call, tell_text, tell_value};
 use rx_eval::{Computed, Job, Postfix, compute, is_whole, put_answer};
 use rx_exprs::{DEEPEST, ParseRefused, Stops, parse_expr};
 use rx_scan::{LONGEST_SOURCE, ScanRefused, bracket_depth, scan};
-use rx_tree::{Expr, OutOfMemory, Steps};
+use rx_tree::{Expr, OutOfMemory, Steps, Value};
 use sqlite_items::Items;
 use std::alloc::Global;
 use std::marker::Brand;
@@ -48,20 +48,20 @@ fn first_job(
     let body = Arc::new(alloc, settings.body(alloc)?)?;
     let mut code = Postfix::new(alloc, body);
     code.postfix(expr, string)?;
+    let facts = settings.facts(alloc, &code)?;
     Ok(Job {
         activity: 0,
         claim: 0,
         code: Arc::new(alloc, code)?,
         place: 0,
         values: Items::new(alloc),
-        facts: settings.facts(alloc)?,
+        facts,
     })
 }
 
 // Tells what comes next, and gives what is to be evaluated then, if there is an answer for a call.
 fn step<L: Ledger>(
     alloc: Global,
-    settings: &Settings,
     job: Job,
     word: Option<&str>,
     told: &mut String,
@@ -80,14 +80,7 @@ fn step<L: Ledger>(
             told.push_str("; ")?;
             let mut values = values;
             put_answer(&mut values, call.awaited, value_of(alloc, word)?)?;
-            return Ok(Some(Job {
-                activity: 0,
-                claim: 0,
-                code: Arc::try_clone(&job.code)?,
-                place,
-                values,
-                facts: settings.facts(alloc)?,
-            }));
+            return Ok(Some(job.from_place(place, values)));
         }
         Computed::Done(values) => {
             for value in values.as_slice() {
@@ -112,7 +105,6 @@ fn step<L: Ledger>(
 fn tell_all<L: Ledger>(
     blank: Blank,
     alloc: Global,
-    settings: &Settings,
     job: Job,
     answers: &[&str],
 ) -> Result<String, OutOfMemory>
@@ -125,21 +117,74 @@ fn tell_all<L: Ledger>(
     let mut told = String::new(alloc);
     let mut job = job;
     for answer in answers {
-        match step(alloc, settings, job, Some(*answer), &mut told, &mut steps)? {
+        match step(alloc, job, Some(*answer), &mut told, &mut steps)? {
             Some(next) => job = next,
             None => return Ok(told),
         }
     }
-    let _ = step(alloc, settings, job, None, &mut told, &mut steps)?;
+    let _ = step(alloc, job, None, &mut told, &mut steps)?;
     Ok(told)
 }
 
-/// What a case comes to: an expression, and the answers of its calls.
+// Evaluates from a place on, with the answers of calls in their order, and gives the job from its beginning on.
+fn evaluate<L: Ledger>(
+    alloc: Global,
+    job: Job,
+    answers: &[Value],
+    steps: &mut Steps<L>,
+) -> Result<Job, OutOfMemory>
+    requires { IsReady job }
+    ensures { IfOk result IsReady }
+{
+    let mut job = job;
+    for answer in answers {
+        let (done, result) = compute(alloc, job, steps).into_parts();
+        job = done;
+        if let Computed::Call(call, place, values) = result {
+            let mut values = values;
+            put_answer(&mut values, call.awaited, answer.share()?)?;
+            job = job.from_place(place, values);
+        } else {
+            return Ok(job.from_place(0, Items::new(alloc)));
+        }
+    }
+    let (done, _) = compute(alloc, job, steps).into_parts();
+    Ok(done.from_place(0, Items::new(alloc)))
+}
+
+// Evaluates many times.
+fn evaluate_often<L: Ledger>(
+    blank: Blank,
+    alloc: Global,
+    job: Job,
+    answers: &[&str],
+    times: u32,
+) -> Result<Job, OutOfMemory>
+    requires name { blank.name ≡ L.name }
+    requires parts { blank.parts ≡ L.parts }
+    requires some { 0 < blank.parts }
+    requires ready { IsReady job }
+    ensures { IfOk result IsReady }
+{
+    let mut steps = Steps::<L>::new(blank);
+    let mut values = Vec::new(alloc);
+    for answer in answers {
+        values.push(value_of(alloc, answer)?)?;
+    }
+    let mut job = job;
+    for _time in 0..times {
+        job = evaluate(alloc, job, values.as_slice(), &mut steps)?;
+    }
+    Ok(job)
+}
+
+/// What a case comes to: an expression, and the answers of its calls. It is evaluated some times before it is told.
 pub fn tell_expr(
     alloc: Global,
     settings: &Settings,
     case: &str,
     string: bool,
+    times: u32,
 ) -> Result<String, OutOfMemory> {
     let (source, answers) = case.split_once(" => ").unwrap_or((case, ""));
     let Some(expr) = expression(alloc, source.as_bytes())? else {
@@ -155,5 +200,6 @@ pub fn tell_expr(
             words.push(word)?;
         }
     }
-    tell_all::<Brand>(Blank::new(1), alloc, settings, job, words.as_slice())
+    let job = evaluate_often::<Brand>(Blank::new(1), alloc, job, words.as_slice(), times)?;
+    tell_all::<Brand>(Blank::new(1), alloc, job, words.as_slice())
 }

@@ -1,10 +1,11 @@
 // What expressions are evaluated over.
-ghost use Rattle.std.specs.Prelude.{◌≤◌, IfOk};
+ghost use Rattle.std.specs.Prelude.{◌≡◌, ◌≤◌, IfOk};
+ghost use Rattle.rx_eval_cases.specs.Ready.{set_value};
 
 use rx_builtin::Facts as Frame;
 use rx_escape::unescape;
-use rx_eval::{Body, Facts};
-use rx_tree::{Derived, OutOfMemory, Text, Value};
+use rx_eval::{Body, Facts, Postfix, Reads};
+use rx_tree::{Derived, Name, OutOfMemory, Part, Text, Value};
 use rx_vars::Table;
 use sqlite_items::Items;
 use std::alloc::Global;
@@ -16,7 +17,7 @@ pub struct Settings {
     novalue: bool,
     labels: Vec<Text>,
     objects: Vec<(Text, u32)>,
-    values: Vec<(Derived, Value)>,
+    values: Table<Value>,
 }
 
 impl Drop for Settings {
@@ -50,27 +51,16 @@ pub fn value_of(alloc: Global, written: &str) -> Result<Value, OutOfMemory> {
     Ok(Value::Str(text_of(alloc, bytes.as_slice())?))
 }
 
-// A derived name as it is written.
-fn derived(alloc: Global, name: &str) -> Result<Derived, OutOfMemory> {
-    let whole = text_of(alloc, name.as_bytes())?;
-    match name.split_once('.') {
-        None => Ok(Derived::Simple(whole)),
-        Some((_, "")) => Ok(Derived::Stem(whole)),
-        Some((stem, tail)) => {
-            let mut bytes = Vec::from_slice(alloc, stem.as_bytes())?;
-            bytes.push(b'.')?;
-            let stem = text_of(alloc, bytes.as_slice())?;
-            Ok(Derived::Compound(stem, text_of(alloc, tail.as_bytes())?))
+// A value as a part of a tail.
+fn push_value(alloc: Global, tail: &mut Vec<u8>, value: &Value) -> Result<(), OutOfMemory> {
+    match value {
+        Value::Str(text) => tail.extend_from_slice(text.bytes())?,
+        Value::Ref(object) => {
+            let text = format!(in alloc; "object {object}")?;
+            tail.extend_from_slice(text.as_bytes())?;
         }
     }
-}
-
-fn share_name(name: &Derived) -> Result<Derived, OutOfMemory> {
-    match name {
-        Derived::Simple(name) => Ok(Derived::Simple(name.share()?)),
-        Derived::Stem(stem) => Ok(Derived::Stem(stem.share()?)),
-        Derived::Compound(stem, tail) => Ok(Derived::Compound(stem.share()?, tail.share()?)),
-    }
+    Ok(())
 }
 
 impl Settings {
@@ -81,7 +71,7 @@ impl Settings {
             novalue: false,
             labels: Vec::new(alloc),
             objects: Vec::new(alloc),
-            values: Vec::new(alloc),
+            values: Table::new(alloc),
         }
     }
 
@@ -107,8 +97,7 @@ impl Settings {
         }
         if let Some(value) = line.strip_prefix("value ") {
             let (name, written) = value.split_once(' ').unwrap_or((value, ""));
-            self.values
-                .push((derived(alloc, name)?, value_of(alloc, written)?))?;
+            self.values.add(name.as_bytes(), value_of(alloc, written)?)?;
         }
         Ok(())
     }
@@ -126,15 +115,76 @@ impl Settings {
         Ok(Body { labels, objects })
     }
 
-    /// What expressions read besides. DIGITS is 1 to 18.
-    pub fn facts(&self, alloc: Global) -> Result<Facts, OutOfMemory>
+    // The tail of a compound name, with the values of the variables in it.
+    fn tail(&self, alloc: Global, parts: &[Part]) -> Result<Vec<u8>, OutOfMemory> {
+        let mut tail = Vec::new(alloc);
+        let mut is_first = true;
+        for part in parts {
+            if !is_first {
+                tail.push(b'.')?;
+            }
+            is_first = false;
+            match part {
+                Part::Fixed(text) => tail.extend_from_slice(text.bytes())?,
+                Part::Of(name) => match self.values.get(name.bytes()) {
+                    Some(value) => push_value(alloc, &mut tail, value)?,
+                    None => tail.extend_from_slice(name.bytes())?,
+                },
+            }
+        }
+        Ok(tail)
+    }
+
+    fn derived(&self, alloc: Global, name: &Name) -> Result<Derived, OutOfMemory> {
+        match name {
+            Name::Simple(name) => Ok(Derived::Simple(name.share()?)),
+            Name::Stem(stem) => Ok(Derived::Stem(stem.share()?)),
+            Name::Compound(stem, parts) => {
+                let tail = self.tail(alloc, parts.as_slice())?;
+                let tail = text_of(alloc, tail.as_slice())?;
+                Ok(Derived::Compound(stem.share()?, tail))
+            }
+        }
+    }
+
+    // The value of a variable, if it has one.
+    fn value(&self, alloc: Global, name: &Derived) -> Result<Option<Value>, OutOfMemory>
+        ensures { IfOk result (λ value. value ≡ set_value self.now.values name.now) }
+    {
+        let found = match name {
+            Derived::Simple(text) | Derived::Stem(text) => self.values.get(text.bytes()),
+            Derived::Compound(stem, tail) => {
+                let mut bytes = Vec::from_slice(alloc, stem.bytes())?;
+                bytes.extend_from_slice(tail.bytes())?;
+                if tail.bytes().is_empty() {
+                    None
+                } else {
+                    self.values.get(bytes.as_slice())
+                }
+            }
+        };
+        match found {
+            None => Ok(None),
+            Some(value) => Ok(Some(value.share()?)),
+        }
+    }
+
+    // The values of the variables of some names, in the order of these.
+    fn reads(&self, alloc: Global, names: &[Name]) -> Result<Reads, OutOfMemory> {
+        let mut reads = Reads::new(alloc);
+        for name in names {
+            let name = self.derived(alloc, name)?;
+            let value = self.value(alloc, &name)?;
+            reads.push(name, value)?;
+        }
+        Ok(reads)
+    }
+
+    /// What some code reads besides. DIGITS is 1 to 18.
+    pub fn facts(&self, alloc: Global, code: &Postfix) -> Result<Facts, OutOfMemory>
         ensures at_least_1 { IfOk result (λ facts. 1 ≤ facts.frame.digits) }
         ensures at_most_18 { IfOk result (λ facts. facts.frame.digits ≤ 18) }
     {
-        let mut reads = Items::new(alloc);
-        for (name, value) in &self.values {
-            reads.push((share_name(name)?, Some(value.share()?)))?;
-        }
         let frame = Frame {
             digits: self.digits.clamp(1, 18),
             arguments: Items::new(alloc),
@@ -144,7 +194,7 @@ impl Settings {
         };
         Ok(Facts {
             frame,
-            reads,
+            reads: self.reads(alloc, code.names())?,
             novalue: self.novalue,
         })
     }

@@ -1,4 +1,4 @@
-use Rattle.std.proofs.Common.{◌≡◌, ◌∷◌, [], false, drop, arith, subst}
+use Rattle.std.proofs.Common.{◌≡◌, ◌∷◌, false, drop, arith, subst}
 use Rattle.rx_tree.specs.declared.expr.Expr.TheVariants as e
 use Rattle.rx_eval.specs.Whole.{IsBuilt}
 use Rattle.rx_eval.proofs.Built.{turn_opers}

@@ -1,0 +1,5 @@
+use Rattle.rx_eval.proofs.LawLemmas.{suffices}
+use Rattle.rx_eval.proofs.laws.evaluation_laws.Goals as goal
+
+pub returns : goal.returns
+returns c = record { suffice = suffices }
