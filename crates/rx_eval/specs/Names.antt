@@ -1,5 +1,5 @@
 -- The names that expressions read, from left to right, and their derived names.
-use Rattle.std.specs.Prelude.{ℕ, Bool, true, false, if◌then◌else◌, List, [], ◌∷◌, ◌++◌, map, All, Contains, Option, Some, None}
+use Rattle.std.specs.Prelude.{◌≡◌, ℕ, Bool, true, false, if◌then◌else◌, List, [], ◌∷◌, ◌++◌, map, All, Contains, Option, Some, None}
 use Rattle.rx_tree.specs.declared.token.Oper.{Oper}
 use Rattle.rx_tree.specs.declared.expr.Expr.{Expr}
 use Rattle.rx_tree.specs.declared.expr.Expr.TheOpen.{Expr-F, SendPart-F}
@@ -14,7 +14,7 @@ use Rattle.rx_eval.specs.declared.code.Instr.{Instr}
 use Rattle.rx_eval.specs.declared.code.Instr.TheVariants as i
 use Rattle.rx_eval.specs.declared.naming.Named.{Named}
 use Rattle.rx_eval.specs.declared.naming.Named.TheVariants.{Known}
-use Rattle.rx_eval.specs.Places.{Trees, class_name}
+use Rattle.rx_eval.specs.Places.{Trees, IsPlace, class_name, partial}
 use Rattle.rx_eval.specs.Reading.{derive, is_environment}
 use Rattle.rx_eval.specs.Values.{Values, same_name}
 
@@ -114,3 +114,7 @@ names_in (instr ∷ code) = names_read instr ++ names_in code
 -- whether each name that code reads is among some names
 abbrev pub Lists : List Name → List Instr → Type 0
 Lists names code = All (Contains names) (names_in code)
+
+-- the names that the trees of a place read, whatever values stand there
+abbrev pub AreRead : List Instr → ℕ → List Name → Type 0
+AreRead code place names = (values : List Value) → IsPlace code place values → names ≡ names_of_all (partial code place values)

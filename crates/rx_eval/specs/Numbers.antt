@@ -1,5 +1,5 @@
 -- Names by number: the number of a name is its place in a table.
-use Rattle.std.specs.Prelude.{◌≡◌, ℕ, List, slice_get, Some}
+use Rattle.std.specs.Prelude.{◌≡◌, ℕ, List, ◌++◌, slice_get, Some}
 use Rattle.std.specs.List.{AllZip}
 use Rattle.rx_tree.specs.declared.name.Name.{Name}
 use Rattle.rx_eval.specs.declared.code.Instr.{Instr}
@@ -18,3 +18,7 @@ AreNumbered table code numbers = AllZip (λ instr own. AreNumbers table (names_r
 -- the names of a table keep their numbers
 abbrev pub Keeps : List Name → List Name → Type 0
 Keeps old new = (name : Name) (number : ℕ) → IsNumber old name number → IsNumber new name number
+
+-- where numbers stand for some names, the new ones stand for these and more
+abbrev pub NumbersMore : List Name → List Name → List Name → List ℕ → List ℕ → Type 0
+NumbersMore old new more numbers all = (names : List Name) → AreNumbers old names numbers → AreNumbers new (names ++ more) all

@@ -1,10 +1,9 @@
 // Names, each with a number.
-ghost use Rattle.std.specs.Prelude.{◌≡◌, List, [], ◌∷◌, ◌++◌, Some, IfOk, IfSome, OnOk};
+ghost use Rattle.std.specs.Prelude.{◌≡◌, [], ◌∷◌, Some, IfOk, IfSome, OnOk};
 ghost use Rattle.std.specs.Bool.{OnTrue};
-ghost use Rattle.rx_tree.specs.declared.name.Name.{Name};
 ghost use Rattle.rx_tree.specs.declared.name.Name.TheVariants.{Simple};
 ghost use Rattle.rx_eval.specs.Names.{class_names, tail_names, tail_of, with_tail};
-ghost use Rattle.rx_eval.specs.Numbers.{AreNumbers, IsNumber, Keeps};
+ghost use Rattle.rx_eval.specs.Numbers.{AreNumbers, IsNumber, Keeps, NumbersMore};
 
 use crate::reading::is_environment;
 use rx_tree::{Name, OutOfMemory, Part, Text};
@@ -157,7 +156,7 @@ impl Names {
 
     // Puts the number of the variable of a part at the end, if it names one.
     fn number_part(&mut self, part: &Part, numbers: &mut Items<usize>) -> Result<(), OutOfMemory>
-        ensures are { OnOk result ((names : List Name) → AreNumbers self.old names numbers.old → AreNumbers self.new (names ++ tail_names (part.now ∷ [])) numbers.new) }
+        ensures are { OnOk result (NumbersMore self.old self.new (tail_names (part.now ∷ [])) numbers.old numbers.new) }
         ensures keeps { Keeps self.old self.new }
     {
         if let Part::Of(name) = part {

@@ -1,10 +1,9 @@
 // Code in postfix order.
-ghost use Rattle.std.specs.Prelude.{◌≡◌, List, [], ◌∷◌, ◌++◌, true, IfOk, OnErr, OnOk};
+ghost use Rattle.std.specs.Prelude.{◌≡◌, [], ◌∷◌, ◌++◌, true, IfOk, OnErr, OnOk};
 ghost use Rattle.std.specs.Arc.{arc_value};
-ghost use Rattle.rx_tree.specs.declared.value.Value.{Value};
 ghost use Rattle.rx_eval.specs.Code.{no_code};
-ghost use Rattle.rx_eval.specs.Names.{Lists, names_of_all};
-ghost use Rattle.rx_eval.specs.Places.{IsPlace, fits, partial, trees_of};
+ghost use Rattle.rx_eval.specs.Names.{AreRead, Lists};
+ghost use Rattle.rx_eval.specs.Places.{fits, trees_of};
 ghost use Rattle.rx_eval.specs.Whole.{is_whole};
 
 use crate::appending::append_tree;
@@ -96,7 +95,7 @@ impl Postfix {
 
     /// The names that are read from a place on. They are those of the trees for which it stands where values stand there.
     pub fn names_from(&self, place: usize) -> Result<Items<Name>, OutOfMemory>
-        ensures { IfOk result (λ names. (values : List Value) → IsPlace self.now.instrs place values → names ≡ names_of_all (partial self.now.instrs place values)) }
+        ensures { IfOk result (AreRead self.now.instrs place) }
     {
         let names = self.code.names_from(place)?;
         Ok(names)
