@@ -20,3 +20,4 @@ mod target;
 
 pub use answer::{Began, NativeAnswer, NativeRefused};
 pub use calling::{call, is_built};
+pub use target::target_scope;

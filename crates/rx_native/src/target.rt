@@ -42,10 +42,10 @@ pub(crate) fn class_of_value(heap: &Heap, target: &Value) -> u32
     }
 }
 
-// The class whose methods a value has, and on which side.
-fn target_scope(heap: &Heap, target: &Value) -> Scope
-    requires { IsThere heap.now target.now }
-    ensures { result ≡ spec.target_scope heap.now target.now }
+/// The scopes that are searched for a method of a value: those of its class, or for a class object those of that class itself.
+pub fn target_scope(heap: &Heap, target: &Value) -> Scope
+    requires there { IsThere heap.now target.now }
+    ensures scope { result ≡ spec.target_scope heap.now target.now }
 {
     match target {
         Value::Ref(object) if is_class(heap, *object) => Scope {
