@@ -7,7 +7,7 @@ use Rattle.std.proofs.lemmas.Option.{slice_get-get_or, slice_get_within}
 use Rattle.rx_frames.specs.declared.position.Position.{Position}
 use Rattle.rx_tree.specs.declared.value.Value.{Value}
 use Rattle.rx_tree.specs.declared.name.Derived.{Derived}
-use Rattle.rx_frames.specs.Frames.{Frame, IsShared, with_value}
+use Rattle.rx_frames.specs.Frames.{Frame, IsShared, with_answer, with_value}
 use Rattle.rx_frames.specs.Activities.{ShareAll}
 use Rattle.rx_frames.specs.Runs.{AreRuns, IsKept, IsRun}
 use Rattle.rx_frames.proofs.FoundLemmas.{found-append, found-before, found-drop, found-more, found-reverse, found-set, found-take}
@@ -129,6 +129,12 @@ pub kept-valued : (runs : List ℕ) (frames : List (Frame Position)) (place : �
 kept-valued runs frames place x w name value is within there valued =
     kept-written runs frames place x w is (slice_get-get_or frames place x within ∙ ap (λ f. Some f) (sym there))
     (λ shared. subst (λ (f : Frame Position). IsShared f.variables) (sym valued) shared)
+
+pub kept-answered : (runs : List ℕ) (frames : List (Frame Position)) (place : ℕ) (x w : Frame Position) (answer : Option Value) → IsKept runs frames
+    → place < length frames → x ≡ get_or frames place x → w ≡ with_answer answer x → IsKept runs (slice_set frames place w)
+kept-answered runs frames place x w answer is within there answered =
+    kept-written runs frames place x w is (slice_get-get_or frames place x within ∙ ap (λ f. Some f) (sym there))
+    (λ shared. subst (λ (f : Frame Position). IsShared f.variables) (sym answered) shared)
 
 pub kept-same : (runs : List ℕ) (frames : List (Frame Position)) (place : ℕ) (x w : Frame Position) → IsKept runs frames
     → x ≡ get_or frames place x → w ≡ x → IsKept runs (slice_set frames place w)

@@ -1,5 +1,5 @@
 -- Frames: what an activity is in the middle of.
-use Rattle.std.specs.Prelude.{◌≡◌, ℕ, Bool, true, false, List, [], Option, None, if◌then◌else◌}
+use Rattle.std.specs.Prelude.{◌≡◌, ℕ, Bool, true, false, List, [], ◌∷◌, ◌++◌, Option, None, Some, if◌then◌else◌}
 use Rattle.rx_tree.specs.declared.value.Value.{Value}
 use Rattle.rx_tree.specs.declared.activity.FrameKind.{FrameKind}
 use Rattle.rx_tree.specs.declared.activity.FrameKind.TheVariants.{Main, Method, Routine, Internal}
@@ -12,7 +12,10 @@ use Rattle.rx_vars.specs.Variables.{Variables, no_variables}
 use Rattle.rx_frames.specs.declared.parts.Own.{Own}
 use Rattle.rx_frames.specs.declared.parts.Trap.{Trap}
 use Rattle.rx_frames.specs.declared.parts.Due.{Due}
+use Rattle.rx_frames.specs.declared.position.Awaited.{Awaited}
+use Rattle.rx_frames.specs.declared.position.Awaited.TheVariants.{Dropped}
 use Rattle.rx_frames.specs.declared.position.Marks.TheVariants.{NoGuard}
+use Rattle.rx_frames.specs.declared.position.Operands.{Operands}
 use Rattle.rx_frames.specs.declared.position.Position.{Position}
 
 -- A frame, by the way in which it tells what is still to be done: as a position in the code of its body, or as a list.
@@ -95,3 +98,17 @@ with_value name value frame =
 -- the object, scope and pool of a frame that asks for its pool
 abbrev pub asked_by : {Todo : Type 0} → Frame Todo → Option Own
 asked_by frame = if frame.asks then frame.own else None
+
+-- whether the answer of a call is let go
+abbrev pub is_dropped : Option Awaited → Bool
+is_dropped (Some Dropped) = true
+is_dropped _ = false
+
+-- the operands with the answer of the call that they await: a value, or none
+abbrev pub operands_with : Option Value → Operands → Operands
+operands_with answer operands =
+    if is_dropped operands.awaits then operands else record operands { values = operands.values ++ answer ∷ [] }
+
+-- the frame with this answer of the call that it awaits
+abbrev pub with_answer : Option Value → Frame Position → Frame Position
+with_answer answer frame = record frame { todo = record frame.todo { operands = operands_with answer frame.todo.operands } }

@@ -3,7 +3,7 @@ ghost use Rattle.std.specs.Prelude.{◌≡◌, ◌+◌, ◌<◌, ◌≤◌, ◌-
 ghost use Rattle.std.specs.Bool.{OnFalse};
 ghost use Rattle.std.specs.Option.{option_copied};
 ghost use Rattle.std.specs.Borrow.{sem};
-ghost use Rattle.rx_frames.specs.Activities.{ShareAll, asked, first_of, seen, waiting, with_frames, with_value_below};
+ghost use Rattle.rx_frames.specs.Activities.{ShareAll, asked, first_of, seen, waiting, with_answer_above, with_frames, with_value_below};
 ghost use Rattle.rx_frames.specs.Runs.{AreRuns, IsRun};
 
 use crate::frame::Frame;
@@ -194,6 +194,18 @@ impl Activity {
             return Ok(());
         };
         self.frames[place].set_value(name, value)?;
+        Ok(())
+    }
+
+    /// Its top frame, if it has one, has this answer of the call that it awaits, a value or none; or memory is wanted.
+    pub fn answer(&mut self, answer: Option<Value>) -> Result<(), OutOfMemory>
+        ensures ok { OnOk result (self.new ≡ with_answer_above answer self.old) }
+        ensures err { OnErr result (self.new ≡ self.old) }
+    {
+        let Some(place) = self.frames.len().checked_sub(1) else {
+            return Ok(());
+        };
+        self.frames[place].answer(answer)?;
         Ok(())
     }
 

@@ -2,10 +2,10 @@
 ghost use Rattle.std.specs.Prelude.{◌≡◌, ◌≤◌, IsTrue, OnErr, OnOk};
 ghost use Rattle.std.specs.Option.{option_copied};
 ghost use Rattle.std.specs.Borrow.{sem};
-ghost use Rattle.rx_frames.specs.Frames.{IsShared, asked_by, beginning, frame_with, with_value};
+ghost use Rattle.rx_frames.specs.Frames.{IsShared, asked_by, beginning, frame_with, with_answer, with_value};
 
 use crate::parts::{Due, Own, Trap};
-use crate::position::{Loop, Marks, Operands, Position};
+use crate::position::{Awaited, Loop, Marks, Operands, Position};
 use rx_tree::{Caught, Derived, FrameKind, OutOfMemory, TraceSetting, Value};
 use rx_vars::Vars;
 use sqlite_items::Items;
@@ -439,6 +439,19 @@ impl Frame {
             Some(value) => self.variables.set(name, value),
             None => self.variables.drop_name(name),
         }
+    }
+
+    // The answer of the call that it awaits, a value or none, stands behind its operand values, or memory is wanted. It is let go
+    // where it is awaited so.
+    pub(crate) fn answer(&mut self, answer: Option<Value>) -> Result<(), OutOfMemory>
+        ensures ok { OnOk result (self.new ≡ with_answer answer self.old) }
+        ensures err { OnErr result (self.new ≡ self.old) }
+    {
+        if let Some(Awaited::Dropped) = self.position.operands.awaits {
+            return Ok(());
+        }
+        self.position.operands.values.push(answer)?;
+        Ok(())
     }
 
     // The pool that it asks for, with its object and scope.
