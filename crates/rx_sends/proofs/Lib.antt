@@ -1,0 +1,5 @@
+pub mod ReachLemmas
+pub mod FitLemmas
+pub mod NewLemmas
+pub mod UnknownLemmas
+pub mod StackLemmas

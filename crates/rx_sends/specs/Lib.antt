@@ -1,0 +1,12 @@
+pub mod Refusals
+pub mod Senders
+pub mod Numbers
+pub mod Settings
+pub mod Reaching
+pub mod Calls
+pub mod Replies
+pub mod Outcomes
+pub mod Making
+pub mod Native
+pub mod Delivering
+pub mod Sending
