@@ -1,8 +1,8 @@
 -- What holds of a receiver still once an Array is made.
-use Rattle.std.proofs.Common.{◌≡◌, inl, inr, ℕ, zero, suc, ◌+◌, ◌<◌, List, [], ◌∷◌, ◌++◌, length, Option, Some, refl, sym, ap, ◌∙◌, subst, arith, length-append}
+use Rattle.std.proofs.Common.{◌≡◌, inl, inr, ℕ, zero, suc, ◌+◌, ◌<◌, List, [], ◌∷◌, ◌++◌, length, Option, refl, sym, ap, ◌∙◌, subst, arith, length-append}
 use Rattle.std.specs.Prelude.{Contains, IfSome, true, false, slice_get, if◌then◌else◌}
 use Rattle.std.proofs.lemmas.Bool.{cases_lt}
-use Rattle.rx_tree.specs.Object.{Object, Places}
+use Rattle.rx_tree.specs.Object.{Object, Contents, Places}
 use Rattle.rx_tree.specs.declared.value.Value.{Value}
 use Rattle.rx_tree.specs.declared.value.Value.TheVariants.{Str, Ref}
 use Rattle.rx_tree.specs.declared.class.ClassDef.{ClassDef}
@@ -17,7 +17,7 @@ use Rattle.rx_heap.specs.declared.kind.Kind.{Kind}
 use Rattle.rx_heap.specs.declared.kind.Kind.TheVariants as k
 use Rattle.rx_heap.specs.Objects.{IsObject, class_at, class_of, contents_of, kind_by, object_at}
 use Rattle.rx_native.specs.Arguments.{Arguments}
-use Rattle.rx_native.specs.Fitting.{AreThere, Fits, FitsObject, IsReached, IsThere}
+use Rattle.rx_native.specs.Fitting.{AreThere, Fits, FitsObject, IsThere}
 use Rattle.rx_native.specs.Outcomes.{next_number, with_object}
 use Rattle.rx_native.specs.Targets.{is_class_kind, kind_at, target_scope}
 use Rattle.rx_native.proofs.HeapLemmas.{made-object, made-there}
@@ -61,36 +61,63 @@ neither a b n no-a no-b (zero, within, is) = no-a is
 neither a b n no-a no-b (suc zero, within, is) = no-b is
 neither a b n no-a no-b (suc (suc place), within, is) = omega (arith, within)
 
-not-in-array : (classes : List ClassDef) (native : ℕ) → (array_class ≡ native → ⊥) → (object_class ≡ native → ⊥) → Contains (order classes array_class) native → ⊥
-not-in-array classes native no-a no-b among = neither array_class object_class native no-a no-b among
+-- a class whose order is it and Object
+pub not-in-order : (class native : ℕ) → (class ≡ native → ⊥) → (object_class ≡ native → ⊥) → Contains (class ∷ object_class ∷ []) native → ⊥
+not-in-order class native no-a no-b among = neither class object_class native no-a no-b among
 
-array-fits : (classes : List ClassDef) (objects : List Object) (args : Arguments)
-    → FitsObject classes (with_object objects array_class (Places args)) (length objects + 1)
-array-fits classes objects args =
-    let after : List Object = with_object objects array_class (Places args) in
+-- ---- a new object
+
+-- what a new object has to be to fit
+pub record IsFitting (classes : List ClassDef) (class : ℕ) (kind : Kind) : Type 0 where
+  pub known : IsClass classes class
+  pub no_class_object : kind ≡ k.ClassObject → ⊥
+  pub no_class : Contains (order classes class) class_class → ⊥
+  pub of_array : Contains (order classes class) array_class → kind ≡ k.Array
+  pub of_queue : Contains (order classes class) queue_class → kind ≡ k.Queue
+  pub of_directory : Contains (order classes class) directory_class → kind ≡ k.Directory
+
+made-fits : (classes : List ClassDef) (objects : List Object) (class : ℕ) (contents : Contents) → IsFitting classes class (kind_by contents)
+    → FitsObject classes (with_object objects class contents) (length objects + 1)
+made-fits classes objects class contents fitting =
+    let after : List Object = with_object objects class contents in
     let number : ℕ = length objects + 1 in
-    let class_is : class_at after number ≡ array_class = ap class_of (made-object objects array_class (Places args)) in
-    let kind_is : kind_at after number ≡ k.Array = ap (λ (o : Option Object). kind_by (contents_of o)) (made-object objects array_class (Places args)) in
-    let in_order : (native : ℕ) → Contains (order classes (class_at after number)) native → Contains (order classes array_class) native =
+    let class_is : class_at after number ≡ class = ap class_of (made-object objects class contents) in
+    let kind_is : kind_at after number ≡ kind_by contents = ap (λ (o : Option Object). kind_by (contents_of o)) (made-object objects class contents) in
+    let in_order : (native : ℕ) → Contains (order classes (class_at after number)) native → Contains (order classes class) native =
     λ native among. subst (λ (c : ℕ). Contains (order classes c) native) class_is among in
     record {
-      known = subst (λ (c : ℕ). IsClass classes c) (sym class_is) (omega arith, omega arith);
-      class_object = λ is. let e : k.Array ≡ k.ClassObject = sym kind_is ∙ is in cc;
-      of_class = λ among. absurd (not-in-array classes class_class (λ e. omega (arith, e)) (λ e. omega (arith, e)) (in_order class_class among));
-      of_array = λ among. kind_is;
-      of_queue = λ among. absurd (not-in-array classes queue_class (λ e. omega (arith, e)) (λ e. omega (arith, e)) (in_order queue_class among));
-      of_directory = λ among. absurd (not-in-array classes directory_class (λ e. omega (arith, e)) (λ e. omega (arith, e)) (in_order directory_class among));
+      known = subst (λ (c : ℕ). IsClass classes c) (sym class_is) fitting.known;
+      class_object = λ is. absurd (fitting.no_class_object (sym kind_is ∙ is));
+      of_class = λ among. absurd (fitting.no_class (in_order class_class among));
+      of_array = λ among. kind_is ∙ fitting.of_array (in_order array_class among);
+      of_queue = λ among. kind_is ∙ fitting.of_queue (in_order queue_class among);
+      of_directory = λ among. kind_is ∙ fitting.of_directory (in_order directory_class among);
     }
+
+pub fits-made : (classes : List ClassDef) (objects : List Object) (class : ℕ) (contents : Contents) → IsFitting classes class (kind_by contents)
+    → Fits classes objects → Fits classes (with_object objects class contents)
+fits-made classes objects class contents fitting fits number there = elim (cases_lt (length objects) number) [
+  | inl after ↦
+      subst (λ (n : ℕ). FitsObject classes (with_object objects class contents) n)
+      (omega (arith, after, there.1, length-append objects (record { class = class; contents = contents } ∷ [])))
+      (made-fits classes objects class contents fitting)
+  | inr before ↦ fits-before classes objects (record { class = class; contents = contents } ∷ []) number (there.0, before) (fits number (there.0, before))
+]
+
+-- of the class Array itself
+pub own-array : (classes : List ClassDef) → IsFitting classes array_class k.Array
+own-array classes = record {
+  known = (omega arith, omega arith);
+  no_class_object = λ same. let e : k.Array ≡ k.ClassObject = same in cc;
+  no_class = not-in-order array_class class_class (λ e. omega (arith, e)) (λ e. omega (arith, e));
+  of_array = λ inside. refl;
+  of_queue = λ inside. absurd (not-in-order array_class queue_class (λ e. omega (arith, e)) (λ e. omega (arith, e)) inside);
+  of_directory = λ inside. absurd (not-in-order array_class directory_class (λ e. omega (arith, e)) (λ e. omega (arith, e)) inside);
+}
 
 fits-array : (classes : List ClassDef) (objects : List Object) (args : Arguments) → Fits classes objects
     → Fits classes (with_object objects array_class (Places args))
-fits-array classes objects args fits number there = elim (cases_lt (length objects) number) [
-  | inl after ↦
-      subst (λ (n : ℕ). FitsObject classes (with_object objects array_class (Places args)) n)
-      (omega (arith, after, there.1, length-append objects (record { class = array_class; contents = Places args } ∷ [])))
-      (array-fits classes objects args)
-  | inr before ↦ fits-before classes objects (record { class = array_class; contents = Places args } ∷ []) number (there.0, before) (fits number (there.0, before))
-]
+fits-array classes objects args fits = fits-made classes objects array_class (Places args) (own-array classes) fits
 
 -- ---- the receiver
 

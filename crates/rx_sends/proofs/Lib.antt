@@ -3,3 +3,7 @@ pub mod FitLemmas
 pub mod NewLemmas
 pub mod UnknownLemmas
 pub mod StackLemmas
+pub mod NativeClassLemmas
+pub mod KeepLemmas
+pub mod MethodFits
+pub mod MessageFits

@@ -1,5 +1,5 @@
 -- A native method that a message comes to is one that the receiver reaches; and who has NEW is a class.
-use Rattle.std.proofs.Common.{◌≡◌, ℕ, zero, suc, codes, Bool, true, false, List, [], ◌∷◌, drop, length, Option, Some, None, refl, sym, ap, ◌∙◌, subst, arith}
+use Rattle.std.proofs.Common.{◌≡◌, ℕ, zero, suc, codes, Bool, true, false, List, [], ◌∷◌, drop, Option, Some, None, refl, sym, ap, ◌∙◌, subst, arith}
 use Rattle.std.specs.Prelude.{◌==◌, ◌||◌, option_map, position, slice_get, Contains, IfSome, IsTrue, if◌then◌else◌}
 use Rattle.std.specs.Option.{option_map_or}
 use Rattle.std.proofs.lemmas.Bool.{eqb-true}
@@ -13,8 +13,8 @@ use Rattle.rx_classes.specs.declared.method.MethodId.TheVariants as id
 use Rattle.rx_classes.specs.declared.method.Sought.{Sought}
 use Rattle.rx_classes.specs.declared.method.Sought.TheVariants as s
 use Rattle.rx_classes.specs.Classes.{IsClass}
-use Rattle.rx_classes.specs.Lookup.{find, find_from, first_method, from_class, scopes, sought}
-use Rattle.rx_classes.specs.Natives.{NativeMethod, array_class, native_methods, object_class, string_class}
+use Rattle.rx_classes.specs.Lookup.{find, first_method, sought}
+use Rattle.rx_classes.specs.Natives.{NativeMethod, array_class, native_methods, string_class}
 use Rattle.rx_classes.specs.Orders.{order}
 use Rattle.rx_native.specs.declared.class.OfClass.TheVariants as of_class
 use Rattle.rx_native.specs.declared.array.OfArrayClass.TheVariants as of_array
@@ -28,7 +28,6 @@ use Rattle.rx_native.specs.Targets.{is_class, is_class_kind, kind_at, target_sco
 use Rattle.rx_native.proofs.FoundLemmas.{find-reached, found-stands}
 use Rattle.rx_native.proofs.ReachLemmas.{among-sides, class-receiver, scope-reached, scopes_by}
 use Rattle.rx_sends.specs.declared.parts.Sent.{Sent}
-use Rattle.rx_sends.specs.declared.reaching.Reached.{Reached}
 use Rattle.rx_sends.specs.declared.reaching.Reached.TheVariants as r
 use Rattle.rx_sends.specs.Delivering.{IsReachedBy}
 use Rattle.rx_sends.specs.Numbers.{is_new, new, new_array}
@@ -140,7 +139,7 @@ reached-unknown classes objects sender sent scope method is =
 
 -- ---- who has NEW
 
-abbrev array_side : Scope
+abbrev pub array_side : Scope
 array_side = record { class = array_class; class_side = true }
 
 class-kind : (kind : Kind) → is_class_kind kind ≡ true → kind ≡ k.ClassObject
@@ -159,7 +158,7 @@ side-by classes objects object true is class among = class is
 side-by classes objects object false is class among =
     let no : true ≡ false = (among-sides false (order classes (class_at objects object)) array_side among).1 in cc
 
-array-target : (classes : List ClassDef) (objects : List Object) (target : Value) → IsThere objects target → Fits classes objects
+pub array-target : (classes : List ClassDef) (objects : List Object) (target : Value) → IsThere objects target → Fits classes objects
     → Contains (target_scopes classes objects target) array_side → IsClass classes (object_in target)
 array-target classes objects (Str text) there fits among =
     let no : true ≡ false = (among-sides false (order classes string_class) array_side among).1 in cc

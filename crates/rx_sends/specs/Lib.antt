@@ -10,3 +10,4 @@ pub mod Making
 pub mod Native
 pub mod Delivering
 pub mod Sending
+pub mod Keeping

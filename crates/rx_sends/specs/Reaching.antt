@@ -4,7 +4,6 @@ use Rattle.rx_tree.specs.Object.{Object}
 use Rattle.rx_tree.specs.declared.value.Value.{Value}
 use Rattle.rx_tree.specs.declared.value.Value.TheVariants.{Str, Ref}
 use Rattle.rx_tree.specs.declared.class.ClassDef.{ClassDef}
-use Rattle.rx_tree.specs.declared.class.Scope.{Scope}
 use Rattle.rx_classes.specs.declared.method.MethodId.{MethodId}
 use Rattle.rx_classes.specs.declared.method.MethodId.TheVariants as id
 use Rattle.rx_classes.specs.declared.method.Sought.{Sought}

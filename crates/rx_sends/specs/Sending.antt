@@ -1,5 +1,5 @@
 -- What a message does to the frames, the objects and the pools.
-use Rattle.std.specs.Prelude.{◌≡◌, ℕ, ◌==◌, Bool, true, false, if◌then◌else◌, List, [], ◌∷◌, ◌++◌, Option, Some, None, unwrap_or, Result, Ok, Err, OnOk}
+use Rattle.std.specs.Prelude.{◌≡◌, ℕ, Bool, true, false, if◌then◌else◌, List, [], ◌∷◌, ◌++◌, Option, Some, None, unwrap_or, Result, Err, OnOk}
 use Rattle.std.specs.List.{list_any}
 use Rattle.rx_builtin.specs.declared.facts.Facts.{Facts}
 use Rattle.rx_tree.specs.Object.{Object, Contents, Message, Plain, ClassObject, Places, Line, Names}
@@ -12,7 +12,7 @@ use Rattle.rx_tree.specs.declared.activity.FrameKind.TheVariants as kind
 use Rattle.rx_tree.specs.declared.activity.Outcome.{Outcome}
 use Rattle.rx_tree.specs.declared.activity.Outcome.TheVariants.{Given}
 use Rattle.rx_heap.specs.Objects.{contents_at, with_contents}
-use Rattle.rx_pools.specs.Pools.{Pools, pool_number, with_pool}
+use Rattle.rx_pools.specs.Pools.{pool_number, with_pool}
 use Rattle.rx_frames.specs.declared.activity.Wait.{Wait}
 use Rattle.rx_frames.specs.declared.activity.Wait.TheVariants as w
 use Rattle.rx_frames.specs.declared.parts.Trap.{Trap}

@@ -9,6 +9,7 @@ mod answering;
 mod call;
 mod calling;
 mod delivering;
+mod laws;
 mod making;
 mod native;
 mod parts;
@@ -19,6 +20,7 @@ mod sender;
 mod sending;
 mod unknown;
 
+pub use laws::sending_laws;
 pub use parts::{Parts, Sent, parts_cross};
 pub use refused::SendRefused;
 pub use sending::{forward, send};

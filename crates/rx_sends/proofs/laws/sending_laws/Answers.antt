@@ -1,0 +1,5 @@
+use Rattle.rx_sends.proofs.MessageFits.{sent-fits}
+use Rattle.rx_sends.proofs.laws.sending_laws.Goals as goal
+
+pub returns : goal.returns
+returns c = record { fits = sent-fits }
