@@ -2,7 +2,6 @@
 use Rattle.std.specs.Prelude.{ℕ, ◌-◌, ◌==◌, Bool, not, is_some, if◌then◌else◌, decimal, List, [], ◌∷◌, ◌++◌, length, reverse, slice_get, slice_index_or, codes, Option, Some, None, option_map, ok_or, unwrap_or, Result, Ok, Err}
 use Rattle.std.specs.Option.{option_map_or}
 use Rattle.std.specs.Char.{to_ascii_uppercase}
-use Rattle.std.specs.Arc.{arc_value}
 use Rattle.rx_answers.specs.Answers.{at_place}
 use Rattle.rx_convfn.specs.Kinds.{truth}
 use Rattle.rx_tree.specs.declared.activity.Caught.{Caught}
@@ -83,7 +82,7 @@ of_frame f.Condition =
     (λ a facts. condition_text (unwrap_or (byte 1 a) 0x49) facts.condition)
 of_frame f.Digits = row (codes "DIGITS") 0 [] (λ a facts. Ok (decimal facts.digits))
 of_frame f.Queued = row (codes "QUEUED") 0 [] (λ a facts. Ok (decimal facts.queued))
-of_frame f.Sourceline = row (codes "SOURCELINE") 0 (Count ∷ []) (λ a facts. sourceline_text (number 1 a) (arc_value facts.lines))
+of_frame f.Sourceline = row (codes "SOURCELINE") 0 (Count ∷ []) (λ a facts. sourceline_text (number 1 a) facts.lines)
 
 -- ---- the object that ARG gives in place of a text
 

@@ -1,6 +1,5 @@
 // The functions that tell of the frame that calls them, of the queue and of the source.
 ghost use Rattle.std.specs.Prelude.{◌≡◌, ◌≤◌, ◌-◌, is_some, option_copied};
-ghost use Rattle.std.specs.Arc.{arc_value};
 ghost use Rattle.rx_builtin.specs.Answers.{Answers};
 ghost use Rattle.rx_builtin.specs.Arguments.{fits};
 ghost use Rattle.rx_builtin.specs.Frames.{arg_object, arg_text, condition_text, given_count, is_as_asked, nth, object_of, of_frame, sourceline_text, argument_text};

@@ -12,4 +12,5 @@ pub mod NumberLemmas
 pub mod ValueLemmas
 pub mod Soundness
 pub mod BuiltinLemmas
+pub mod FillLemmas
 pub mod LawLemmas

@@ -13,7 +13,7 @@ use Rattle.rx_tree.specs.declared.expr.Expr.TheVariants as e
 use Rattle.rx_operators.specs.Families.{is_join}
 use Rattle.rx_operators.specs.Operators.{value, prefix_value}
 use Rattle.rx_tree.specs.declared.name.Name.{Name}
-use Rattle.rx_eval.specs.declared.call.Awaited.TheVariants as awaited
+use Rattle.rx_tree.specs.declared.activity.Awaited.TheVariants as awaited
 use Rattle.rx_eval.specs.declared.call.Pending.{Pending}
 use Rattle.rx_eval.specs.declared.call.Sent.TheVariants as calls
 use Rattle.rx_eval.specs.declared.code.Callee.{Callee}

@@ -9,8 +9,8 @@ use Rattle.rx_tree.specs.declared.token.Oper.{Oper}
 use Rattle.rx_tree.specs.declared.value.Value.{Value}
 use Rattle.rx_tree.specs.declared.value.Value.TheVariants.{Str, Ref}
 use Rattle.rx_vars.specs.Tables.{look_up}
-use Rattle.rx_eval.specs.declared.call.Awaited.{Awaited}
-use Rattle.rx_eval.specs.declared.call.Awaited.TheVariants as awaited
+use Rattle.rx_tree.specs.declared.activity.Awaited.{Awaited}
+use Rattle.rx_tree.specs.declared.activity.Awaited.TheVariants as awaited
 use Rattle.rx_eval.specs.declared.call.Pending.{Pending}
 use Rattle.rx_eval.specs.declared.call.Sent.{Sent}
 use Rattle.rx_eval.specs.declared.call.Sent.TheVariants as s
@@ -39,7 +39,7 @@ message_of name bracket = if bracket then codes "[]" else str_to_ascii_uppercase
 -- a message of a message term: behind `~~` its answer isn't awaited
 abbrev pub message : Value → List ℕ → Bool → Option ℕ → List (Option Value) → Pending
 message target name back scope args =
-    pending (s.Message target name scope args) (if back then awaited.Nothing else awaited.Message)
+    pending (s.Message target name scope args) (if back then awaited.Dropped else awaited.Message)
 
 -- ---- functions
 

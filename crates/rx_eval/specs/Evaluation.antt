@@ -11,7 +11,7 @@ use Rattle.rx_tree.specs.declared.expr.Expr.TheFolds.{para-Expr}
 use Rattle.rx_tree.specs.declared.expr.SendPart.{SendPart}
 use Rattle.rx_tree.specs.declared.value.Value.{Value}
 use Rattle.rx_tree.specs.declared.value.Value.TheVariants.{Str, Ref}
-use Rattle.rx_eval.specs.declared.call.Awaited.TheVariants as awaited
+use Rattle.rx_tree.specs.declared.activity.Awaited.TheVariants as awaited
 use Rattle.rx_eval.specs.declared.call.Pending.{Pending}
 use Rattle.rx_eval.specs.declared.call.Sent.TheVariants as s
 use Rattle.rx_eval.specs.declared.code.Callee.{Callee}

@@ -14,4 +14,5 @@ pub mod Built
 pub mod Code
 pub mod Computed
 pub mod Answers
+pub mod Filling
 pub mod Laws

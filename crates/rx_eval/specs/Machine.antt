@@ -4,8 +4,8 @@ use Rattle.rx_operators.specs.Operators.{value, prefix_value}
 use Rattle.rx_tree.specs.declared.token.Oper.{Oper}
 use Rattle.rx_tree.specs.declared.value.Value.{Value}
 use Rattle.rx_tree.specs.declared.value.Value.TheVariants.{Str, Ref}
-use Rattle.rx_eval.specs.declared.call.Awaited.{Awaited}
-use Rattle.rx_eval.specs.declared.call.Awaited.TheVariants as awaited
+use Rattle.rx_tree.specs.declared.activity.Awaited.{Awaited}
+use Rattle.rx_tree.specs.declared.activity.Awaited.TheVariants as awaited
 use Rattle.rx_eval.specs.declared.call.Pending.{Pending}
 use Rattle.rx_eval.specs.declared.call.Sent.TheVariants as s
 use Rattle.rx_eval.specs.declared.code.Callee.{Callee}
@@ -31,7 +31,7 @@ pub data Moved : Type 0 where
 
 -- whether the answer of a call becomes a value
 abbrev pub is_kept : Awaited → Bool
-is_kept awaited.Nothing = false
+is_kept awaited.Dropped = false
 is_kept _ = true
 
 abbrev pub moved_by : List Value → Result Value ℕ → Moved

@@ -5,19 +5,19 @@ ghost use Rattle.rx_builtin.specs.Frames.{arg_object};
 ghost use Rattle.rx_builtin.specs.Functions.{is_builtin};
 ghost use Rattle.rx_tree.specs.declared.value.Value.{Value};
 ghost use Rattle.rx_eval.specs.Calling as calls;
-ghost use Rattle.rx_eval.specs.declared.call.Awaited.TheVariants as awaited;
+ghost use Rattle.rx_tree.specs.declared.activity.Awaited.TheVariants as awaited;
 ghost use Rattle.rx_eval.specs.declared.step.Step.TheVariants as step;
 ghost use Rattle.rx_eval.specs.Machine.{Moved, move_callee, moved_by, popping};
 ghost use Rattle.rx_eval.specs.Sound.{IsSound};
 ghost use Rattle.rx_eval.specs.Steps.{moved, popped};
 
-use crate::call::{Awaited, Pending, Sent};
+use crate::call::{Pending, Sent};
 use crate::code::{Callee, Calling};
 use crate::facts::Facts;
 use crate::pile::Pile;
 use crate::step::{Step, push_text};
 use rx_builtin::{argument_object, call};
-use rx_tree::{OutOfMemory, Text, Value};
+use rx_tree::{Awaited, OutOfMemory, Text, Value};
 use sqlite_items::Items;
 use std::alloc::Global;
 

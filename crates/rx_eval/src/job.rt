@@ -4,11 +4,10 @@ ghost use Rattle.rx_eval.specs.Answers.{IsAnswer, IsPlaced};
 ghost use Rattle.rx_eval.specs.Machine.{is_kept};
 ghost use Rattle.rx_eval.specs.Places.{with_answer};
 
-use crate::call::Awaited;
 use crate::computing::{Computed, compute_from};
 use crate::facts::Facts;
 use crate::postfix::Postfix;
-use rx_tree::{OutOfMemory, Steps, Value};
+use rx_tree::{Awaited, OutOfMemory, Steps, Value};
 use sqlite_items::Items;
 use std::alloc::{AllocError, Global};
 use std::marker::Model;
@@ -125,7 +124,7 @@ pub fn put_answer(
 ) -> Result<(), OutOfMemory>
     ensures { OnOk result (reverse values.new ≡ with_answer (is_kept awaited) answer (reverse values.old)) }
 {
-    if awaited.is_kept() {
+    if awaited != Awaited::Dropped {
         values.push(answer)?;
     }
     Ok(())

@@ -28,7 +28,7 @@ mod sending;
 mod step;
 mod whole;
 
-pub use call::{Awaited, Pending, Sent};
+pub use call::{Pending, Sent};
 pub use code::{Callee, Calling, Class, Form, Instr, Sending};
 pub use computing::Computed;
 pub use crossing::{answer_crosses, body_crosses, job_crosses};

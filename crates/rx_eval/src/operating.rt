@@ -4,11 +4,11 @@ ghost use Rattle.rx_eval.specs.Calling as calls;
 ghost use Rattle.rx_eval.specs.Machine.{move_oper, move_prefix, move_wanted, pair_moved};
 ghost use Rattle.rx_eval.specs.Steps.{moved};
 
-use crate::call::{Awaited, Pending, Sent};
+use crate::call::{Pending, Sent};
 use crate::pile::Pile;
 use crate::step::{Step, push_bytes};
 use rx_operators::message_name;
-use rx_tree::{Oper, OutOfMemory, Text, Value};
+use rx_tree::{Awaited, Oper, OutOfMemory, Text, Value};
 use sqlite_items::Items;
 use std::alloc::Global;
 

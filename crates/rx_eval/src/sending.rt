@@ -4,14 +4,14 @@ ghost use Rattle.rx_eval.specs.Calling as calls;
 ghost use Rattle.rx_eval.specs.Machine.{Moved, class_moved, message_moved, move_send, popping, scope_moved};
 ghost use Rattle.rx_eval.specs.Steps.{moved, scoped};
 
-use crate::call::{Awaited, Pending, Sent};
+use crate::call::{Pending, Sent};
 use crate::calling::pop_args;
 use crate::code::{Class, Sending};
 use crate::facts::Facts;
 use crate::pile::Pile;
 use crate::reading::{Reading, symbol};
 use crate::step::Step;
-use rx_tree::{OutOfMemory, Text, Value};
+use rx_tree::{Awaited, OutOfMemory, Text, Value};
 use sqlite_items::Items;
 use std::alloc::Global;
 
@@ -70,7 +70,7 @@ fn message(
         stack.push(target.share()?)?;
     }
     let awaited = if sending.back {
-        Awaited::Nothing
+        Awaited::Dropped
     } else {
         Awaited::Message
     };

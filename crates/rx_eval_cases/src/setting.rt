@@ -5,11 +5,10 @@ ghost use Rattle.rx_eval_cases.specs.Ready.{set_value};
 use rx_builtin::Facts as Frame;
 use rx_escape::unescape;
 use rx_eval::{Body, Facts, Postfix, Reads};
-use rx_tree::{Derived, Name, OutOfMemory, Part, Text, Value};
+use rx_tree::{Derived, Name, OutOfMemory, Part, Shared, Text, Value};
 use rx_vars::Table;
 use sqlite_items::Items;
 use std::alloc::Global;
-use std::sync::Arc;
 
 /// What the lines before set.
 pub struct Settings {
@@ -187,10 +186,10 @@ impl Settings {
     {
         let frame = Frame {
             digits: self.digits.clamp(1, 18),
-            arguments: Items::new(alloc),
+            arguments: Shared::new(alloc, Items::new(alloc))?,
             queued: 0,
             condition: None,
-            lines: Arc::new(alloc, Items::new(alloc))?,
+            lines: Shared::new(alloc, Items::new(alloc))?,
         };
         Ok(Facts {
             frame,

@@ -1,7 +1,7 @@
 // Values and calls as text.
 use rx_escape::escape;
-use rx_eval::{Awaited, Pending, Sent};
-use rx_tree::{OutOfMemory, Text, Value};
+use rx_eval::{Pending, Sent};
+use rx_tree::{Awaited, OutOfMemory, Text, Value};
 use std::alloc::Global;
 
 /// A text as it stands, but for bytes that aren't letters, digits and signs.
@@ -47,7 +47,8 @@ fn tell_scope(alloc: Global, scope: Option<u32>) -> Result<String, OutOfMemory> 
 
 fn awaited(awaited: Awaited) -> &'static str {
     match awaited {
-        Awaited::Nothing => "nothing",
+        Awaited::Dropped => "nothing",
+        Awaited::Anything => "anything",
         Awaited::Message => "message",
         Awaited::Function => "function",
         Awaited::String => "string",

@@ -7,8 +7,7 @@ use Rattle.rx_frames.specs.declared.activity.Look.{Look}
 use Rattle.rx_frames.specs.declared.activity.Look.TheVariants as look
 use Rattle.rx_frames.specs.declared.activity.Wait.{Wait as Given}
 use Rattle.rx_frames.specs.declared.activity.Wait.TheVariants as given
-use Rattle.rx_frames.specs.declared.position.Position.{Position}
-use Rattle.rx_frames.specs.Frames.{Frame, IsShared, asked_by, with_answer, with_value}
+use Rattle.rx_frames.specs.Frames.{Frame, IsShared, asked_by, with_value}
 
 pub data State : Type 0 where
   -- it waits for a Message to be complete before it begins
@@ -102,10 +101,9 @@ abbrev pub with_value_below : {Todo : Type 0} → ℕ → Derived → Option Val
 with_value_below down name value activity =
     record activity { frames = with_change_of activity.frames down (with_value name value) (slice_get activity.frames down) }
 
--- the activity once its top frame has this answer of the call that it awaits
-abbrev pub with_answer_above : Option Value → Activity Position → Activity Position
-with_answer_above answer activity =
-    record activity { frames = with_change_of activity.frames 0 (with_answer answer) (slice_get activity.frames 0) }
+-- the activity once its top frame is changed so
+abbrev pub with_top_changed : {Todo : Type 0} → (Frame Todo → Frame Todo) → Activity Todo → Activity Todo
+with_top_changed change activity = record activity { frames = with_change_of activity.frames 0 change (slice_get activity.frames 0) }
 
 -- ---- frames that share variables
 

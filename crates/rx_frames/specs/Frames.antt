@@ -1,5 +1,5 @@
 -- Frames: what an activity is in the middle of.
-use Rattle.std.specs.Prelude.{◌≡◌, ℕ, Bool, true, false, List, [], ◌∷◌, ◌++◌, Option, None, Some, if◌then◌else◌}
+use Rattle.std.specs.Prelude.{◌≡◌, ℕ, Bool, true, false, List, [], Option, None, Some, if◌then◌else◌}
 use Rattle.rx_tree.specs.declared.value.Value.{Value}
 use Rattle.rx_tree.specs.declared.activity.FrameKind.{FrameKind}
 use Rattle.rx_tree.specs.declared.activity.FrameKind.TheVariants.{Main, Method, Routine, Internal}
@@ -12,10 +12,9 @@ use Rattle.rx_vars.specs.Variables.{Variables, no_variables}
 use Rattle.rx_frames.specs.declared.parts.Own.{Own}
 use Rattle.rx_frames.specs.declared.parts.Trap.{Trap}
 use Rattle.rx_frames.specs.declared.parts.Due.{Due}
-use Rattle.rx_frames.specs.declared.position.Awaited.{Awaited}
-use Rattle.rx_frames.specs.declared.position.Awaited.TheVariants.{Dropped}
+use Rattle.rx_frames.specs.declared.position.CallState.{CallState}
+use Rattle.rx_frames.specs.declared.position.CallState.TheVariants.{NoCall, Awaiting, Answered}
 use Rattle.rx_frames.specs.declared.position.Marks.TheVariants.{NoGuard}
-use Rattle.rx_frames.specs.declared.position.Operands.{Operands}
 use Rattle.rx_frames.specs.declared.position.Position.{Position}
 
 -- A frame, by the way in which it tells what is still to be done: as a position in the code of its body, or as a list.
@@ -52,7 +51,7 @@ pub record Frame (Todo : Type 0) : Type 0 where
 abbrev pub beginning : Position
 beginning = record {
   place = 0;
-  operands = record { place = 0; values = []; awaits = None };
+  operands = record { place = 0; values = []; call = NoCall };
   loops = [];
   marks = NoGuard;
 }
@@ -99,16 +98,33 @@ with_value name value frame =
 abbrev pub asked_by : {Todo : Type 0} → Frame Todo → Option Own
 asked_by frame = if frame.asks then frame.own else None
 
--- whether the answer of a call is let go
-abbrev pub is_dropped : Option Awaited → Bool
-is_dropped (Some Dropped) = true
-is_dropped _ = false
+-- the frame whose to-do is changed so
+abbrev pub with_todo : {Todo : Type 0} → (Todo → Todo) → Frame Todo → Frame Todo
+with_todo change frame = record frame { todo = change frame.todo }
 
--- the operands with the answer of the call that they await: a value, or none
-abbrev pub operands_with : Option Value → Operands → Operands
-operands_with answer operands =
-    if is_dropped operands.awaits then operands else record operands { values = operands.values ++ answer ∷ [] }
+-- ---- answers
 
--- the frame with this answer of the call that it awaits
+-- the answer of a call, a value or none, has come where it was awaited
+abbrev pub call_with : Option Value → CallState → CallState
+call_with answer NoCall = NoCall
+call_with answer (Awaiting awaited) = Answered awaited answer
+call_with answer (Answered awaited other) = Answered awaited other
+
+abbrev pub answered : Option Value → Position → Position
+answered answer position =
+    record position { operands = record position.operands { call = call_with answer position.operands.call } }
+
+-- the frame once this answer has come of the call that it awaits
 abbrev pub with_answer : Option Value → Frame Position → Frame Position
-with_answer answer frame = record frame { todo = record frame.todo { operands = operands_with answer frame.todo.operands } }
+with_answer answer = with_todo (answered answer)
+
+-- ---- ways of telling what is still to be done
+
+-- The beginning of a body, by its number, and what is to be done once an answer has come.
+pub record Doing (Todo : Type 0) : Type 0 where
+  pub beginning : ℕ → Todo
+  pub answered : Option Value → Todo → Todo
+
+-- positions in code
+abbrev pub positions : Doing Position
+positions = record { beginning = λ (body : ℕ). beginning; answered = answered }

@@ -3,7 +3,8 @@ ghost use Rattle.std.specs.Prelude.{◌≡◌, ◌+◌, ◌<◌, ◌≤◌, ◌-
 ghost use Rattle.std.specs.Bool.{OnFalse};
 ghost use Rattle.std.specs.Option.{option_copied};
 ghost use Rattle.std.specs.Borrow.{sem};
-ghost use Rattle.rx_frames.specs.Activities.{ShareAll, asked, first_of, seen, waiting, with_answer_above, with_frames, with_value_below};
+ghost use Rattle.rx_frames.specs.Activities.{ShareAll, asked, first_of, seen, waiting, with_frames, with_top_changed, with_value_below};
+ghost use Rattle.rx_frames.specs.Frames.{with_answer};
 ghost use Rattle.rx_frames.specs.Runs.{AreRuns, IsRun};
 
 use crate::frame::Frame;
@@ -197,16 +198,13 @@ impl Activity {
         Ok(())
     }
 
-    /// Its top frame, if it has one, has this answer of the call that it awaits, a value or none; or memory is wanted.
-    pub fn answer(&mut self, answer: Option<Value>) -> Result<(), OutOfMemory>
-        ensures ok { OnOk result (self.new ≡ with_answer_above answer self.old) }
-        ensures err { OnErr result (self.new ≡ self.old) }
+    /// The answer of the call that its top frame awaits, if it has one, has come: a value or none.
+    pub fn answer(&mut self, answer: Option<Value>)
+        ensures { self.new ≡ with_top_changed (with_answer answer) self.old }
     {
-        let Some(place) = self.frames.len().checked_sub(1) else {
-            return Ok(());
-        };
-        self.frames[place].answer(answer)?;
-        Ok(())
+        if let Some(place) = self.frames.len().checked_sub(1) {
+            self.frames[place].answer(answer);
+        }
     }
 
     /// A number of frames, from the one that stands so many beneath the top on, that share all variables of their callers.

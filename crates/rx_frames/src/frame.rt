@@ -5,8 +5,8 @@ ghost use Rattle.std.specs.Borrow.{sem};
 ghost use Rattle.rx_frames.specs.Frames.{IsShared, asked_by, beginning, frame_with, with_answer, with_value};
 
 use crate::parts::{Due, Own, Trap};
-use crate::position::{Awaited, Loop, Marks, Operands, Position};
-use rx_tree::{Caught, Derived, FrameKind, OutOfMemory, TraceSetting, Value};
+use crate::position::{Loop, Marks, Operands, Position};
+use rx_tree::{Caught, Derived, FrameKind, OutOfMemory, Shared, TraceSetting, Value};
 use rx_vars::Vars;
 use sqlite_items::Items;
 use std::alloc::Global;
@@ -26,7 +26,7 @@ pub struct Frame {
     variables: Vars,
     shares: bool,
     own: Option<Own>,
-    arguments: Items<Option<Value>>,
+    arguments: Shared<Option<Value>>,
     digits: u8,
     trace: TraceSetting,
     traps: Items<Trap>,
@@ -105,7 +105,7 @@ impl Frame {
         kind: FrameKind,
         body: u32,
         own: Option<Own>,
-        arguments: Items<Option<Value>>,
+        arguments: Shared<Option<Value>>,
     ) -> Frame
         ensures { result ≡ frame_with beginning kind body own arguments }
     {
@@ -255,14 +255,14 @@ impl Frame {
     }
 
     /// Its arguments. One that is omitted has no value.
-    pub fn arguments(&self) -> &[Option<Value>]
+    pub fn arguments(&self) -> &Shared<Option<Value>>
         ensures { result.now ≡ self.now.arguments }
     {
-        self.arguments.as_slice()
+        &self.arguments
     }
 
     /// These are its arguments.
-    pub fn set_arguments(&mut self, arguments: Items<Option<Value>>)
+    pub fn set_arguments(&mut self, arguments: Shared<Option<Value>>)
         ensures { self.new ≡ record self.old { arguments = arguments } }
     {
         self.arguments = arguments;
@@ -441,17 +441,11 @@ impl Frame {
         }
     }
 
-    // The answer of the call that it awaits, a value or none, stands behind its operand values, or memory is wanted. It is let go
-    // where it is awaited so.
-    pub(crate) fn answer(&mut self, answer: Option<Value>) -> Result<(), OutOfMemory>
-        ensures ok { OnOk result (self.new ≡ with_answer answer self.old) }
-        ensures err { OnErr result (self.new ≡ self.old) }
+    // The answer of the call that it awaits, a value or none, has come.
+    pub(crate) fn answer(&mut self, answer: Option<Value>)
+        ensures { self.new ≡ with_answer answer self.old }
     {
-        if let Some(Awaited::Dropped) = self.position.operands.awaits {
-            return Ok(());
-        }
-        self.position.operands.values.push(answer)?;
-        Ok(())
+        self.position.operands.call.answer(answer);
     }
 
     // The pool that it asks for, with its object and scope.

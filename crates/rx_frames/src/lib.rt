@@ -16,6 +16,6 @@ pub use activity::{Look, Wait};
 pub use crossing::{frame_crosses, stacks_cross};
 pub use frame::Frame;
 pub use parts::{Due, Own, Trap};
-pub use position::{Awaited, Loop, LoopState, Mark, Marks, Operands, Position};
-pub use rx_tree::OutOfMemory;
+pub use position::{CallState, Loop, LoopState, Mark, Marks, Operands, Position};
+pub use rx_tree::{Awaited, OutOfMemory};
 pub use stacks::{BeginRefused, PushRefused, Stacks};

@@ -1,33 +1,51 @@
 // Where a frame stands in the code of its body.
 ghost use Rattle.std.specs.Prelude.{◌≡◌};
-ghost use Rattle.rx_frames.specs.Frames.{beginning};
+ghost use Rattle.rx_frames.specs.Frames.{beginning, call_with};
 
-use rx_tree::Value;
+use rx_tree::{Awaited, Value};
 use sqlite_items::Items;
 use std::alloc::Global;
 
-/// How the answer of a call is awaited that an expression has come to.
-#[derive(Clone, Copy, Debug, PartialEq, Eq)]
-pub enum Awaited {
-    /// Not at all: it is let go, and the receiver's value stands in its place.
-    Dropped,
-    /// As it comes, with a value or without one.
-    Anything,
-    /// With a value.
-    Value,
-    /// With a string, for which an object was asked.
-    Text,
+/// The call that the expressions of a clause have come to.
+pub enum CallState {
+    /// None was met yet.
+    NoCall,
+    /// Its answer is awaited.
+    Awaiting(Awaited),
+    /// The answer has come that was awaited so: a value, or none.
+    Answered(Awaited, Option<Value>),
+}
+
+impl Drop for CallState {
+    fn drop(self) {
+        match self {
+            CallState::NoCall => {}
+            CallState::Awaiting(_) => {}
+            CallState::Answered(_, _) => {}
+        }
+    }
+}
+
+impl CallState {
+    // The answer comes where it is awaited.
+    pub(crate) fn answer(&mut self, answer: Option<Value>)
+        ensures { self.new ≡ call_with answer self.old }
+    {
+        let CallState::Awaiting(awaited) = *self else {
+            return;
+        };
+        *self = CallState::Answered(awaited, answer);
+    }
 }
 
 /// How far the expressions of a clause are evaluated.
 pub struct Operands {
     /// The place in the code of the expressions.
     pub place: u32,
-    /// The operand values that stand there, in the order in which they were evaluated. The answer of a call that gave no
-    /// value is none.
-    pub values: Items<Option<Value>>,
-    /// How the answer is awaited of the call that the place stands behind.
-    pub awaits: Option<Awaited>,
+    /// The operand values that stand there, in the order in which they were evaluated.
+    pub values: Items<Value>,
+    /// The call that the place stands behind.
+    pub call: CallState,
 }
 
 impl Drop for Operands {
@@ -35,7 +53,7 @@ impl Drop for Operands {
         let Operands {
             place: _,
             values: _,
-            awaits: _,
+            call: _,
         } = self;
     }
 }
@@ -139,7 +157,7 @@ impl Position {
             operands: Operands {
                 place: 0,
                 values: Items::new(alloc),
-                awaits: None,
+                call: CallState::NoCall,
             },
             loops: Items::new(alloc),
             marks: Marks::NoGuard,

@@ -2,7 +2,8 @@
 ghost use Rattle.std.specs.Prelude.{◌≡◌, ◌+◌, ◌-◌, ◌<◌, ◌≤◌, ◌++◌, ◌↔◌, [], ◌∷◌, length, drop, slice_get, IfOk, IsTrue, OnErr, OnOk, Ok, Err};
 ghost use Rattle.std.specs.Option.{option_copied, option_copied_mut};
 ghost use Rattle.std.specs.Borrow.{sem};
-ghost use Rattle.rx_frames.specs.Activities.{IsBegun, ShareAll, activity_at, first_message, frames_at, seen_of, waiting, with_answer_above, with_change_at, with_frames, with_value_below};
+ghost use Rattle.rx_frames.specs.Frames.{with_answer};
+ghost use Rattle.rx_frames.specs.Activities.{IsBegun, ShareAll, activity_at, first_message, frames_at, seen_of, waiting, with_change_at, with_frames, with_top_changed, with_value_below};
 
 use crate::activity::{Activity, Look, Wait};
 use crate::frame::Frame;
@@ -201,14 +202,12 @@ impl Stacks {
         self.activities[a as usize - 1].set_value(down, name, value)
     }
 
-    /// The top frame of an activity, if it has one, has this answer of the call that it awaits, a value or none; or memory is
-    /// wanted.
-    pub fn answer(&mut self, a: u32, answer: Option<Value>) -> Result<(), OutOfMemory>
+    /// The answer of the call that the top frame of an activity awaits, if it has one, has come: a value or none.
+    pub fn answer(&mut self, a: u32, answer: Option<Value>)
         requires begun { IsBegun self.old a }
-        ensures ok { OnOk result (self.new ≡ with_change_at self.old a (with_answer_above answer)) }
-        ensures err { OnErr result (self.new ≡ self.old) }
+        ensures { self.new ≡ with_change_at self.old a (with_top_changed (with_answer answer)) }
     {
-        self.activities[a as usize - 1].answer(answer)
+        self.activities[a as usize - 1].answer(answer);
     }
 
     /// A number of frames, from the one that stands so many beneath the top of an activity on, that share all variables of

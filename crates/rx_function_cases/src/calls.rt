@@ -4,19 +4,22 @@ ghost use Rattle.std.specs.Prelude.{◌≤◌};
 use crate::answer::{Answer, refusal};
 use crate::argument::{Arguments, text_of};
 use rx_builtin::{Facts, argument_object, is_builtin};
-use rx_tree::Caught;
+use rx_tree::{Caught, Shared};
 use sqlite_items::Items;
 use std::alloc::{AllocError, Global};
-use std::sync::Arc;
+
+fn shared<T: Drop>(alloc: Global, items: Items<T>) -> Result<Shared<T>, AllocError> {
+    Shared::new(alloc, items).map_err(|_| AllocError)
+}
 
 /// What calls read before any line sets something.
 pub fn first_facts(alloc: Global) -> Result<Facts, AllocError> {
     Ok(Facts {
         digits: 9,
-        arguments: Items::new(alloc),
+        arguments: shared(alloc, Items::new(alloc))?,
         queued: 0,
         condition: None,
-        lines: Arc::new(alloc, Items::new(alloc))?,
+        lines: shared(alloc, Items::new(alloc))?,
     })
 }
 
@@ -42,9 +45,9 @@ pub fn set(
     match word {
         "digits" => facts.digits = given.count(0).clamp(1, 18) as u8,
         "queued" => facts.queued = given.count(0),
-        "arguments" => facts.arguments = given.values(alloc)?,
+        "arguments" => facts.arguments = shared(alloc, given.values(alloc)?)?,
         "trapped" => facts.condition = caught(alloc, given)?,
-        "lines" => facts.lines = Arc::new(alloc, given.given_texts(alloc)?)?,
+        "lines" => facts.lines = shared(alloc, given.given_texts(alloc)?)?,
         _ => return Ok(false),
     }
     Ok(true)

@@ -6,7 +6,7 @@ use crate::line::{Line, wanting};
 use crate::pools::small;
 use rx_frames::{BeginRefused, Frame, Look, Own, PushRefused, Stacks, Wait};
 use rx_pools::Pools;
-use rx_tree::{Derived, FrameKind, Place, Scope, Steps};
+use rx_tree::{Derived, FrameKind, Place, Scope, Shared, Steps};
 use rx_vars::Vars;
 use sqlite_items::Items;
 use std::alloc::{AllocError, Global};
@@ -63,7 +63,8 @@ fn push_one(
     if !is_begun(stacks, a) {
         return Ok(false);
     }
-    let frame = Frame::new(alloc, kind, 1, None, Items::new(alloc));
+    let arguments = Shared::new(alloc, Items::new(alloc)).map_err(|_| AllocError)?;
+    let frame = Frame::new(alloc, kind, 1, None, arguments);
     match stacks.push(a, frame) {
         Ok(()) => Ok(true),
         Err(PushRefused::Deep) => Ok(false),

@@ -9,10 +9,9 @@ ghost use Rattle.rx_tree.specs.Object.{Object};
 use crate::answer::{INCORRECT_METHOD_CALL, NativeAnswer, NativeRefused};
 use rx_answers::INCORRECT_CALL;
 use rx_builtin::{Facts, Refused, call};
-use rx_tree::{Text, Value};
+use rx_tree::{OutOfMemory, Shared, Text, Value};
 use sqlite_items::Items;
-use std::alloc::{AllocError, Global};
-use std::sync::Arc;
+use std::alloc::Global;
 
 /// Where the receiver stands among the arguments of a function.
 #[derive(Clone, Copy)]
@@ -270,15 +269,15 @@ fn texts_of(
 }
 
 // What a function reads besides its arguments: for these it is DIGITS.
-fn facts_of(alloc: Global, digits: u8) -> Result<Facts, AllocError>
+fn facts_of(alloc: Global, digits: u8) -> Result<Facts, OutOfMemory>
     ensures { IfOk result (λ facts. facts.digits ≡ digits) }
 {
     Ok(Facts {
         digits,
-        arguments: Items::new(alloc),
+        arguments: Shared::new(alloc, Items::new(alloc))?,
         queued: 0,
         condition: None,
-        lines: Arc::new(alloc, Items::new(alloc))?,
+        lines: Shared::new(alloc, Items::new(alloc))?,
     })
 }
 

@@ -2,12 +2,13 @@
 ghost use Rattle.std.specs.Prelude.{◌≡◌, ◌<◌};
 ghost use Rattle.rx_frames.specs.Activities.{IsBegun};
 
+use crate::frames::answer_on_top;
 use crate::line::text_of;
-use crate::told::{told_scope, told_value, told_values, told_word};
+use crate::told::{told_answer, told_arguments, told_scope, told_value, told_word};
 use rx_classes::ClassTable;
-use rx_frames::{Awaited, Frame, Look, Own, Stacks};
+use rx_frames::{CallState, Frame, Look, Own, Stacks};
 use rx_sends::Parts;
-use rx_tree::{Derived, FrameKind, OutOfMemory, Steps};
+use rx_tree::{Awaited, Derived, FrameKind, OutOfMemory, Steps};
 use rx_vars::{Place, Vars};
 use std::alloc::Global;
 use std::marker::Brand;
@@ -52,8 +53,9 @@ fn awaited_name(awaited: Awaited) -> &'static str {
     match awaited {
         Awaited::Dropped => "dropped",
         Awaited::Anything => "anything",
-        Awaited::Value => "value",
-        Awaited::Text => "text",
+        Awaited::Message => "message",
+        Awaited::Function => "function",
+        Awaited::String => "string",
     }
 }
 
@@ -99,10 +101,10 @@ fn tell_beginning(alloc: Global, told: &mut String, frame: &Frame) -> Result<(),
     if let Some(message) = frame.completes() {
         told.push_str(format!(in alloc; ", completes #{message}")?.as_str())?;
     }
-    let args = frame.arguments();
+    let args = frame.arguments().as_slice();
     if !args.is_empty() {
         told.push_str(", args")?;
-        told.push_str(told_values(alloc, args, "-")?.as_str())?;
+        told.push_str(told_arguments(alloc, args)?.as_str())?;
     }
     Ok(())
 }
@@ -120,17 +122,19 @@ fn tell_settings(alloc: Global, told: &mut String, frame: &Frame) -> Result<(), 
     Ok(())
 }
 
-// How a frame awaits an answer, and the operand values that it has.
-fn tell_operands(alloc: Global, told: &mut String, frame: &Frame) -> Result<(), OutOfMemory> {
-    let operands = frame.operands();
-    if let Some(awaited) = operands.awaits {
-        let awaited = awaited_name(awaited);
-        told.push_str(format!(in alloc; ", awaits {awaited}")?.as_str())?;
-    }
-    let values = operands.values.as_slice();
-    if !values.is_empty() {
-        told.push_str(", operands")?;
-        told.push_str(told_values(alloc, values, "none")?.as_str())?;
+// How a frame awaits an answer, or awaited the one that it has.
+fn tell_call(alloc: Global, told: &mut String, call: &CallState) -> Result<(), OutOfMemory> {
+    match call {
+        CallState::NoCall => {}
+        CallState::Awaiting(awaited) => {
+            let awaited = awaited_name(*awaited);
+            told.push_str(format!(in alloc; ", awaits {awaited}")?.as_str())?;
+        }
+        CallState::Answered(awaited, answer) => {
+            let awaited = awaited_name(*awaited);
+            let answer = told_answer(alloc, answer)?;
+            told.push_str(format!(in alloc; ", answered {awaited} {answer}")?.as_str())?;
+        }
     }
     Ok(())
 }
@@ -148,7 +152,7 @@ fn told_frame(alloc: Global, classes: &ClassTable, frame: &Frame) -> Result<Stri
     tell_shared(alloc, &mut told, variables)?;
     tell_beginning(alloc, &mut told, frame)?;
     tell_settings(alloc, &mut told, frame)?;
-    tell_operands(alloc, &mut told, frame)?;
+    tell_call(alloc, &mut told, &frame.operands().call)?;
     Ok(told)
 }
 
@@ -169,4 +173,16 @@ pub fn told_activity(alloc: Global, parts: &Parts, a: u32, most: u32) -> Result<
         }
     }
     Ok(told)
+}
+
+/// What is told of a message that is done, and whose answer the frame on top of an activity
+/// awaited.
+pub fn told_gift(alloc: Global, stacks: &Stacks, a: u32) -> Result<String, OutOfMemory> {
+    match answer_on_top(stacks, a) {
+        Some(answer) => {
+            let answer = told_answer(alloc, answer)?;
+            Ok(format!(in alloc; "gives {answer}")?)
+        }
+        None => told_word(alloc, "done"),
+    }
 }

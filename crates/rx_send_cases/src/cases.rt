@@ -4,11 +4,14 @@ ghost use Rattle.std.specs.Bool.{OnTrue};
 ghost use Rattle.rx_frames.specs.Activities.{IsBegun};
 ghost use Rattle.rx_heap.specs.Objects.{IsOfKind};
 
-use crate::activities::told_activity;
+use crate::activities::{told_activity, told_gift};
 use crate::classes::{class_of, method_of};
 use crate::fitting::{are_there, fits, is_class, is_object, is_there};
-use crate::frames::{begin, change_top, is_begun, kind_of, push, push_more, shared, wait_of};
+use crate::frames::{
+    await_next, begin, change_top, is_awaiting, is_begun, kind_of, push, push_more, shared, wait_of,
+};
 use crate::line::{Line, text_of};
+use crate::never::{FrameAt, NeverAwaiting};
 use crate::objects::{told_count, told_object, told_pool};
 use crate::told::{told_class, told_word};
 use rx_classes::{ClassDef, ClassTable, DefineRefused};
@@ -21,15 +24,21 @@ use rx_tree::{FrameKind, OutOfMemory};
 use sqlite_items::Items;
 use std::alloc::Global;
 
-/// What messages act on, and the class whose lines are being read.
+/// What messages act on, the class whose lines are being read, and the frames that await no
+/// answer.
 pub struct SendCases {
     parts: Parts,
     class: Option<ClassDef>,
+    never: NeverAwaiting,
 }
 
 impl Drop for SendCases {
     fn drop(self) {
-        let SendCases { parts: _, class: _ } = self;
+        let SendCases {
+            parts: _,
+            class: _,
+            never: _,
+        } = self;
     }
 }
 
@@ -40,6 +49,17 @@ const OBJECT: u32 = 2;
 const ON_ACTIVITY: [&[u8]; 10] = [
     b"send", b"many", b"forward", b"first", b"end", b"frame", b"digits", b"trap", b"await", b"wait",
 ];
+
+// How a message is sent.
+#[derive(Clone, Copy, PartialEq, Eq)]
+enum Way {
+    /// As a clause of the frame on top does.
+    Clause,
+    /// By FORWARD.
+    Forward,
+    /// As the first message of an activity.
+    First,
+}
 
 // Whether an object is a Message.
 fn is_message(heap: &Heap, o: u32) -> bool
@@ -95,6 +115,7 @@ impl SendCases {
                 pools: Pools::new(alloc),
             },
             class: None,
+            never: NeverAwaiting::new(alloc),
         })
     }
 
@@ -105,6 +126,7 @@ impl SendCases {
         self.parts.heap = Heap::new(alloc, classes)?;
         self.parts.stacks = Stacks::new(alloc);
         self.parts.pools = Pools::new(alloc);
+        self.never = NeverAwaiting::new(alloc);
         begin(&mut self.parts.stacks, 1)?;
         let is_done = push(alloc, &mut self.parts.stacks, 1, FrameKind::Main)?;
         told_done(alloc, is_done, "deep")
@@ -205,13 +227,30 @@ impl SendCases {
         }))
     }
 
+    // The top frame of an activity.
+    fn top_at(&self, a: u32) -> FrameAt
+        requires { IsBegun self.now.parts.stacks a }
+    {
+        FrameAt {
+            activity: a,
+            height: self.parts.stacks.height(a),
+        }
+    }
+
+    // Whether a frame on top is to await the answer of a message before that is sent.
+    fn awaits_next(&self, a: u32, way: Way) -> bool
+        requires { IsBegun self.now.parts.stacks a }
+    {
+        way != Way::First && !self.never.has(self.top_at(a))
+    }
+
     // Sends a message, where what it needs is there.
     fn deliver(
         &mut self,
         alloc: Global,
         a: u32,
         sent: Sent,
-        forwards: bool,
+        way: Way,
     ) -> Result<String, OutOfMemory>
         requires { IsBegun self.old.parts.stacks a }
     {
@@ -224,12 +263,17 @@ impl SendCases {
         if !fits(&self.parts.heap, &self.parts.classes)? {
             return told_word(alloc, "no such class");
         }
-        let outcome = if forwards {
-            forward(alloc, &mut self.parts, a, sent)
-        } else {
-            send(alloc, &mut self.parts, a, sent)
+        let awaits = self.awaits_next(a, way);
+        await_next(alloc, &mut self.parts.stacks, a, awaits);
+        let is_awaiting = is_awaiting(&self.parts.stacks, a);
+        let outcome = match way {
+            Way::Forward => forward(alloc, &mut self.parts, a, sent),
+            Way::Clause | Way::First => send(alloc, &mut self.parts, a, sent),
         };
-        told_outcome(alloc, outcome)
+        match outcome {
+            Ok(()) if is_awaiting => told_gift(alloc, &self.parts.stacks, a),
+            outcome => told_outcome(alloc, outcome),
+        }
     }
 
     // Sends an activity's first message.
@@ -240,9 +284,30 @@ impl SendCases {
             return told_word(alloc, "no first message");
         };
         match self.sent_by(alloc, message)? {
-            Some(sent) => self.deliver(alloc, a, sent, false),
+            Some(sent) => self.deliver(alloc, a, sent, Way::First),
             None => told_word(alloc, "no Message"),
         }
+    }
+
+    // Takes the top frame of an activity away. Whether there is one.
+    fn end(&mut self, a: u32) -> Result<bool, OutOfMemory>
+        requires { IsBegun self.old.parts.stacks a }
+    {
+        let top = self.top_at(a);
+        self.never.set(top, false)?;
+        Ok(self.parts.stacks.pop(a).is_some())
+    }
+
+    // Changes the top frame of an activity as a line says. Whether there is one.
+    fn change(&mut self, alloc: Global, line: &Line, a: u32) -> Result<bool, OutOfMemory>
+        requires { IsBegun self.old.parts.stacks a }
+    {
+        let top = self.top_at(a);
+        let is_done = change_top(alloc, &mut self.parts.stacks, a, line)?;
+        if line.is_at(0, b"await") {
+            self.never.set(top, is_done && line.is_at(2, b"never"))?;
+        }
+        Ok(is_done)
     }
 
     // What a call on an activity comes to.
@@ -252,18 +317,18 @@ impl SendCases {
         match line.bytes(0) {
             b"send" => {
                 let sent = self.sent_of(alloc, line)?;
-                self.deliver(alloc, a, sent, false)
+                self.deliver(alloc, a, sent, Way::Clause)
             }
             b"many" => {
                 let sent = self.many_of(alloc, line)?;
-                self.deliver(alloc, a, sent, false)
+                self.deliver(alloc, a, sent, Way::Clause)
             }
             b"forward" => {
                 let sent = self.sent_of(alloc, line)?;
-                self.deliver(alloc, a, sent, true)
+                self.deliver(alloc, a, sent, Way::Forward)
             }
             b"first" => self.send_first(alloc, a),
-            b"end" => told_done(alloc, self.parts.stacks.pop(a).is_some(), "no frame"),
+            b"end" => told_done(alloc, self.end(a)?, "no frame"),
             b"frame" => {
                 let is_done = push(alloc, &mut self.parts.stacks, a, kind_of(line.bytes(2)))?;
                 told_done(alloc, is_done, "deep")
@@ -272,10 +337,7 @@ impl SendCases {
                 self.parts.stacks.wait(a, wait_of(line));
                 told_word(alloc, "done")
             }
-            _ => {
-                let is_done = change_top(alloc, &mut self.parts.stacks, a, line)?;
-                told_done(alloc, is_done, "no frame")
-            }
+            _ => told_done(alloc, self.change(alloc, line, a)?, "no frame"),
         }
     }
 

@@ -3,8 +3,8 @@ ghost use Rattle.std.specs.Prelude.{IsTrue};
 ghost use Rattle.rx_frames.specs.Activities.{IsBegun};
 
 use crate::line::{Line, text_of};
-use rx_frames::{Awaited, BeginRefused, Frame, Operands, PushRefused, Stacks, Trap, Wait};
-use rx_tree::{Condition, FrameKind, OutOfMemory, Value};
+use rx_frames::{BeginRefused, CallState, Frame, Operands, PushRefused, Stacks, Trap, Wait};
+use rx_tree::{Awaited, Condition, FrameKind, OutOfMemory, Shared, Value};
 use sqlite_items::Items;
 use std::alloc::Global;
 
@@ -27,7 +27,18 @@ pub fn begin(stacks: &mut Stacks, count: u32) -> Result<(), OutOfMemory> {
     Ok(())
 }
 
-/// Pushes a frame of body 0, where the activity was begun. Whether there was room.
+// What has become of the call that a frame has met. It has no operand values.
+fn set_call(alloc: Global, frame: &mut Frame, call: CallState) {
+    let place = frame.operands().place;
+    frame.set_operands(Operands {
+        place,
+        values: Items::new(alloc),
+        call,
+    });
+}
+
+/// Pushes a frame of body 0 that awaits anything, where the activity was begun. Whether there was
+/// room.
 pub fn push(
     alloc: Global,
     stacks: &mut Stacks,
@@ -37,7 +48,9 @@ pub fn push(
     if !is_begun(stacks, a) {
         return Ok(false);
     }
-    let frame = Frame::new(alloc, kind, 0, None, Items::new(alloc));
+    let arguments = Shared::new(alloc, Items::new(alloc))?;
+    let mut frame = Frame::new(alloc, kind, 0, None, arguments);
+    set_call(alloc, &mut frame, CallState::Awaiting(Awaited::Anything));
     match stacks.push(a, frame) {
         Ok(()) => Ok(true),
         Err(PushRefused::Deep) => Ok(false),
@@ -74,8 +87,63 @@ fn awaited_of(word: &[u8]) -> Option<Awaited> {
     match word {
         b"dropped" => Some(Awaited::Dropped),
         b"anything" => Some(Awaited::Anything),
-        b"value" => Some(Awaited::Value),
-        b"text" => Some(Awaited::Text),
+        b"message" => Some(Awaited::Message),
+        b"function" => Some(Awaited::Function),
+        b"string" => Some(Awaited::String),
+        _ => None,
+    }
+}
+
+// The call whose answer is awaited as a word tells. No call is met where it tells nothing.
+fn call_of(word: &[u8]) -> CallState {
+    match awaited_of(word) {
+        Some(awaited) => CallState::Awaiting(awaited),
+        None => CallState::NoCall,
+    }
+}
+
+// How a frame awaits the answer of the next message that it sends: as that of the one before, or
+// anything.
+fn awaited_next(call: &CallState) -> Awaited {
+    match call {
+        CallState::NoCall => Awaited::Anything,
+        CallState::Awaiting(awaited) => *awaited,
+        CallState::Answered(awaited, _) => *awaited,
+    }
+}
+
+/// The top frame of an activity, if it has one, awaits the answer of the next message, where it is
+/// to.
+pub fn await_next(alloc: Global, stacks: &mut Stacks, a: u32, awaits: bool)
+    requires { IsBegun stacks.old a }
+    ensures { IsBegun stacks.new a }
+{
+    if !awaits {
+        return;
+    }
+    if let Some(frame) = stacks.top_mut(a) {
+        let awaited = awaited_next(&frame.operands().call);
+        set_call(alloc, frame, CallState::Awaiting(awaited));
+    }
+}
+
+/// Whether the top frame of an activity, if it has one, awaits an answer.
+pub fn is_awaiting(stacks: &Stacks, a: u32) -> bool
+    requires { IsBegun stacks.now a }
+{
+    match stacks.top(a) {
+        Some(frame) => matches!(frame.operands().call, CallState::Awaiting(_)),
+        None => false,
+    }
+}
+
+/// The answer that the top frame of an activity has, if there is one: a value or none.
+pub fn answer_on_top(stacks: &Stacks, a: u32) -> Option<&Option<Value>> {
+    if !is_begun(stacks, a) {
+        return None;
+    }
+    match &stacks.top(a)?.operands().call {
+        CallState::Answered(_, answer) => Some(answer),
         _ => None,
     }
 }
@@ -118,18 +186,6 @@ pub fn shared(
     Ok(shared)
 }
 
-// A frame awaits an answer so. The operand values that it has stay.
-fn set_awaited(alloc: Global, frame: &mut Frame, word: &[u8]) -> Result<(), OutOfMemory> {
-    let place = frame.operands().place;
-    let values = shared(alloc, frame.operands().values.as_slice())?;
-    frame.set_operands(Operands {
-        place,
-        values,
-        awaits: awaited_of(word),
-    });
-    Ok(())
-}
-
 /// Changes the top frame of an activity as a line says. Whether there is one.
 pub fn change_top(
     alloc: Global,
@@ -145,7 +201,7 @@ pub fn change_top(
     match line.bytes(0) {
         b"digits" => frame.set_digits(line.number(2).clamp(1, 18) as u8),
         b"trap" => frame.set_traps(traps_of(alloc, line)?),
-        _ => set_awaited(alloc, frame, line.bytes(2))?,
+        _ => set_call(alloc, frame, call_of(line.bytes(2))),
     }
     Ok(true)
 }

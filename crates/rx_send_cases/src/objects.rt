@@ -2,7 +2,7 @@
 ghost use Rattle.std.specs.Prelude.{◌<◌, length};
 ghost use Rattle.rx_heap.specs.Objects.{IsObject, IsOfKind};
 
-use crate::told::{told_class, told_scope, told_value, told_values, told_word};
+use crate::told::{told_arguments, told_class, told_scope, told_value, told_word};
 use rx_classes::ClassTable;
 use rx_escape::escape;
 use rx_heap::{Heap, Kind, MessageRow, Outcome};
@@ -74,7 +74,7 @@ fn told_outcome(alloc: Global, outcome: &Outcome) -> Result<String, OutOfMemory>
 fn told_message(alloc: Global, row: &MessageRow) -> Result<String, OutOfMemory> {
     let target = told_value(alloc, &row.target)?;
     let name = escape(alloc, row.name.bytes())?;
-    let args = told_values(alloc, row.args.as_slice(), "-")?;
+    let args = told_arguments(alloc, row.args.as_slice())?;
     let used = if row.used { "used" } else { "unused" };
     let outcome = told_outcome(alloc, &row.outcome)?;
     let notified = row.notify.len();

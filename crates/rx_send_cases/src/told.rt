@@ -30,18 +30,22 @@ pub fn told_value(alloc: Global, value: &Value) -> Result<String, OutOfMemory> {
     }
 }
 
-/// Values, with a blank in front of each, and a word for each that is none.
-pub fn told_values(
-    alloc: Global,
-    values: &[Option<Value>],
-    none: &str,
-) -> Result<String, OutOfMemory> {
+/// An answer: a value, or that it is none.
+pub fn told_answer(alloc: Global, answer: &Option<Value>) -> Result<String, OutOfMemory> {
+    match answer {
+        Some(value) => told_value(alloc, value),
+        None => told_word(alloc, "none"),
+    }
+}
+
+/// Arguments, with a blank in front of each, and `-` for each that is omitted.
+pub fn told_arguments(alloc: Global, args: &[Option<Value>]) -> Result<String, OutOfMemory> {
     let mut told = String::new(alloc);
-    for value in values {
+    for argument in args {
         told.push_str(" ")?;
-        match value {
+        match argument {
             Some(value) => told.push_str(told_value(alloc, value)?.as_str())?,
-            None => told.push_str(none)?,
+            None => told.push_str("-")?,
         }
     }
     Ok(told)

@@ -4,6 +4,7 @@ use Rattle.std.specs.Prelude.{◌==◌, ◌&&◌, not, nat_lt, if◌then◌else�
 use Rattle.rx_tree.specs.Object.{Object, Contents, Message, Plain, ClassObject, Places, Line, Names}
 use Rattle.rx_tree.specs.declared.value.Value.{Value}
 use Rattle.rx_tree.specs.declared.value.Value.TheVariants.{Ref}
+use Rattle.rx_tree.specs.declared.activity.Outcome.{Outcome as Came}
 use Rattle.rx_tree.specs.declared.activity.Outcome.TheVariants.{Given}
 use Rattle.rx_tree.specs.declared.class.ClassDef.{ClassDef}
 use Rattle.rx_tree.specs.declared.class.Scope.{Scope}
@@ -14,8 +15,7 @@ use Rattle.rx_classes.specs.Installing.{CanInstall}
 use Rattle.rx_heap.specs.Arrays.{most_places}
 use Rattle.rx_heap.specs.Objects.{contents_at, kind_by, most_objects}
 use Rattle.rx_frames.specs.declared.activity.Wait.TheVariants as w
-use Rattle.rx_frames.specs.declared.position.Position.{Position}
-use Rattle.rx_frames.specs.Frames.{Frame}
+use Rattle.rx_frames.specs.Frames.{Doing, Frame}
 use Rattle.rx_frames.specs.Activities.{activity_at, first_message, frames_at, waiting}
 use Rattle.rx_builtin.specs.declared.facts.Facts.{Facts}
 use Rattle.rx_native.specs.declared.answer.Began.TheVariants as b
@@ -25,7 +25,6 @@ use Rattle.rx_native.specs.Arguments.{Arguments}
 use Rattle.rx_native.specs.Fitting.{Fits, IsReached, IsThere}
 use Rattle.rx_native.specs.Methods.{is_built, object_in}
 use Rattle.rx_native.specs.Outcomes.{Outcome, next_number, or_nil, with_object}
-use Rattle.rx_sends.specs.declared.parts.Parts.{Parts}
 use Rattle.rx_sends.specs.declared.parts.Sent.{Sent}
 use Rattle.rx_sends.specs.declared.reaching.Reached.{Reached}
 use Rattle.rx_sends.specs.declared.reaching.Reached.TheVariants as r
@@ -43,6 +42,7 @@ use Rattle.rx_sends.specs.Refusals.{method_not_found}
 use Rattle.rx_sends.specs.Senders.{sender_of}
 use Rattle.rx_sends.specs.Sending.{completed, given_to, sending_by, sent, traps_no_method, with_outcome_of, with_reply}
 use Rattle.rx_sends.specs.Sending as s
+use Rattle.rx_sends.specs.Parts.{Parts}
 use Rattle.rx_sends.specs.Settings.{Setting, setting}
 use Rattle.rx_sends.proofs.FitLemmas.{fits-after, reached-after, there-after}
 use Rattle.rx_sends.proofs.KeepLemmas.{OutcomeFits, fits-with}
@@ -135,48 +135,48 @@ reached-fits s objects message r.NoMethod all fits there is = fits
 
 -- ---- what is done then
 
-outcome-fits : (classes : List ClassDef) (objects : List Object) (message : ℕ) (value : Value) (contents : Contents) → contents_at objects message ≡ contents
-    → Fits classes objects → Fits classes (with_outcome_of objects message (Given value) contents)
-outcome-fits classes objects message value (Message sending) is fits =
-    fits-with classes objects message (Message (record sending { outcome = Given value })) (sym (ap kind_by is)) fits
-outcome-fits classes objects message value Plain is fits = fits
-outcome-fits classes objects message value ClassObject is fits = fits
-outcome-fits classes objects message value (Places places) is fits = fits
-outcome-fits classes objects message value (Line items) is fits = fits
-outcome-fits classes objects message value (Names entries) is fits = fits
+outcome-fits : (classes : List ClassDef) (objects : List Object) (message : ℕ) (come : Came) (contents : Contents) → contents_at objects message ≡ contents
+    → Fits classes objects → Fits classes (with_outcome_of objects message come contents)
+outcome-fits classes objects message come (Message sending) is fits =
+    fits-with classes objects message (Message (record sending { outcome = come })) (sym (ap kind_by is)) fits
+outcome-fits classes objects message come Plain is fits = fits
+outcome-fits classes objects message come ClassObject is fits = fits
+outcome-fits classes objects message come (Places places) is fits = fits
+outcome-fits classes objects message come (Line items) is fits = fits
+outcome-fits classes objects message come (Names entries) is fits = fits
 
-completed-fits : (classes : List ClassDef) (objects : List Object) (message : Option ℕ) (value : Value) → Fits classes objects
-    → Fits classes (completed objects message value)
-completed-fits classes objects None value fits = fits
-completed-fits classes objects (Some message) value fits = outcome-fits classes objects message value (contents_at objects message) refl fits
+completed-fits : (classes : List ClassDef) (objects : List Object) (message : Option ℕ) (come : Came) → Fits classes objects
+    → Fits classes (completed objects message come)
+completed-fits classes objects None come fits = fits
+completed-fits classes objects (Some message) come fits = outcome-fits classes objects message come (contents_at objects message) refl fits
 
-given-fits : (parts : Parts) (number : ℕ) (value : Option Value) (frames : List (Frame Position)) → Fits parts.classes parts.heap
-    → Fits (given_to parts number value frames).classes (given_to parts number value frames).heap
-given-fits parts number value [] fits =
-    completed-fits parts.classes parts.heap (first_message (activity_at parts.stacks number)) (or_nil value) fits
-given-fits parts number value (frame ∷ frames) fits = fits
+given-fits : {T : Type 0} (doing : Doing T) (parts : Parts T) (number : ℕ) (value : Option Value) (frames : List (Frame T)) → Fits parts.classes parts.objects
+    → Fits (given_to doing parts number value frames).classes (given_to doing parts number value frames).objects
+given-fits doing parts number value [] fits =
+    completed-fits parts.classes parts.objects (first_message (activity_at parts.activities number)) (Given (or_nil value)) fits
+given-fits doing parts number value (frame ∷ frames) fits = fits
 
-reply-fits : (parts : Parts) (number : ℕ) (reply : Reply) → Fits parts.classes parts.heap
-    → Fits (with_reply parts number reply).classes (with_reply parts number reply).heap
-reply-fits parts number (Gives value) fits = given-fits parts number value (frames_at parts.stacks number) fits
-reply-fits parts number (Calls call) fits = fits
-reply-fits parts number (Starts message) fits =
-    let more : Parts = record parts { stacks = parts.stacks ++ waiting (w.First message) [] ∷ [] } in
-    given-fits more number (Some (Ref message)) (frames_at more.stacks number) fits
+reply-fits : {T : Type 0} (doing : Doing T) (parts : Parts T) (number : ℕ) (reply : Reply) → Fits parts.classes parts.objects
+    → Fits (with_reply doing parts number reply).classes (with_reply doing parts number reply).objects
+reply-fits doing parts number (Gives value) fits = given-fits doing parts number value (frames_at parts.activities number) fits
+reply-fits doing parts number (Calls call) fits = fits
+reply-fits {T} doing parts number (Starts message) fits =
+    let more : Parts T = record parts { activities = parts.activities ++ waiting (w.First message) [] ∷ [] } in
+    given-fits doing more number (Some (Ref message)) (frames_at more.activities number) fits
 
-trap-fits : (parts : Parts) (trapped : Bool) → Fits parts.classes parts.heap
+trap-fits : {T : Type 0} (parts : Parts T) (trapped : Bool) → Fits parts.classes parts.objects
     → FitsAfter (if trapped then s.NoMethod parts else s.Raises method_not_found parts)
 trap-fits parts true fits = fits
 trap-fits parts false fits = fits
 
-sending-fits : (parts : Parts) (number : ℕ) (one : Delivery) → DeliveryFits parts.classes one → FitsAfter (sending_by parts number one)
-sending-fits parts number (Replies reply objects) fits = reply-fits (record parts { heap = objects }) number reply fits
-sending-fits parts number (Raises error objects) fits = fits
-sending-fits parts number (NoMethod objects) fits = trap-fits (record parts { heap = objects }) (traps_no_method (frames_at parts.stacks number)) fits
+sending-fits : {T : Type 0} (doing : Doing T) (parts : Parts T) (number : ℕ) (one : Delivery) → DeliveryFits parts.classes one → FitsAfter (sending_by doing parts number one)
+sending-fits doing parts number (Replies reply objects) fits = reply-fits doing (record parts { objects = objects }) number reply fits
+sending-fits doing parts number (Raises error objects) fits = fits
+sending-fits doing parts number (NoMethod objects) fits = trap-fits (record parts { objects = objects }) (traps_no_method (frames_at parts.activities number)) fits
 
-pub sent-fits : (facts : Facts) (parts : Parts) (number : ℕ) (message : Sent) → CanInstall parts.classes → Fits parts.classes parts.heap
-    → IsThere parts.heap message.target → FitsAfter (sent facts parts number message)
-sent-fits facts parts number message all fits there =
-    let s : Setting = setting facts parts.classes (sender_of parts.stacks number) in
-    sending-fits parts number (delivery s parts.heap message)
-    (reached-fits s parts.heap message (reached s.classes parts.heap s.sender.object message) all fits there refl)
+pub sent-fits : {T : Type 0} (doing : Doing T) (facts : Facts) (parts : Parts T) (number : ℕ) (message : Sent) → CanInstall parts.classes → Fits parts.classes parts.objects
+    → IsThere parts.objects message.target → FitsAfter (sent doing facts parts number message)
+sent-fits doing facts parts number message all fits there =
+    let s : Setting = setting facts parts.classes (sender_of parts.activities number) in
+    sending-fits doing parts number (delivery s parts.objects message)
+    (reached-fits s parts.objects message (reached s.classes parts.objects s.sender.object message) all fits there refl)

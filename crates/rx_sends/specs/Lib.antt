@@ -9,5 +9,6 @@ pub mod Outcomes
 pub mod Making
 pub mod Native
 pub mod Delivering
+pub mod Parts
 pub mod Sending
 pub mod Keeping

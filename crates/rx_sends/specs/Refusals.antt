@@ -1,5 +1,5 @@
 -- The errors that messages raise, and refusals of what they call as their own.
-use Rattle.std.specs.Prelude.{ℕ}
+use Rattle.std.specs.Prelude.{ℕ, Bool, if◌then◌else◌}
 use Rattle.rx_heap.specs.declared.heap.HeapRefused.{HeapRefused}
 use Rattle.rx_heap.specs.declared.heap.HeapRefused.TheVariants as heap
 use Rattle.rx_native.specs.declared.answer.NativeRefused.{NativeRefused}
@@ -27,3 +27,9 @@ of_native native.OutOfMemory = refused.OutOfMemory
 abbrev pub of_heap : HeapRefused → SendRefused
 of_heap heap.Full = refused.Raised resources_exhausted
 of_heap heap.OutOfMemory = refused.OutOfMemory
+
+-- where NOMETHOD isn't trapped, an error is raised in its place
+abbrev pub untrapped : Bool → SendRefused → SendRefused
+untrapped traps refused.NoMethod = if traps then refused.NoMethod else refused.Raised method_not_found
+untrapped traps (refused.Raised number) = refused.Raised number
+untrapped traps refused.OutOfMemory = refused.OutOfMemory

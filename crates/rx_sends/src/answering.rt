@@ -1,9 +1,11 @@
 // What a message's reply does to the frames, the objects and the pools.
 ghost use Rattle.std.specs.Prelude.{◌≡◌, ◌↔◌, ◌++◌, [], ◌∷◌, IsTrue, OnOk};
 ghost use Rattle.rx_frames.specs.Activities.{IsBegun, waiting};
+ghost use Rattle.rx_frames.specs.Frames.{positions};
 ghost use Rattle.rx_heap.specs.Objects.{IsOfKind};
 ghost use Rattle.rx_native.specs.Outcomes.{or_nil};
 ghost use Rattle.rx_sends.specs.Sending as spec;
+ghost use Rattle.rx_sends.specs.Parts.{parts_of};
 
 use crate::call::{Call, NIL};
 use crate::parts::Parts;
@@ -66,7 +68,7 @@ impl Parts {
     // An activity's first message has given a value, or none: its Message is complete, and the activity has ended.
     fn end_first(&mut self, a: u32, value: Option<Value>)
         requires { IsBegun self.old.stacks a }
-        ensures { self.new ≡ spec.first_answered self.old a value }
+        ensures { parts_of self.new ≡ spec.first_answered (parts_of self.old) a value }
     {
         if let Some(message) = self.stacks.first_message(a) {
             complete(&mut self.heap, message, or_nil(value));
@@ -75,21 +77,21 @@ impl Parts {
     }
 
     // The sender has a value, or none.
-    fn give(&mut self, a: u32, value: Option<Value>) -> Result<(), OutOfMemory>
+    fn give(&mut self, a: u32, value: Option<Value>)
         requires { IsBegun self.old.stacks a }
-        ensures { OnOk result (self.new ≡ spec.given self.old a value) }
+        ensures { parts_of self.new ≡ spec.given positions (parts_of self.old) a value }
     {
         if self.stacks.height(a) == 0 {
             self.end_first(a, value);
-            return Ok(());
+        } else {
+            self.stacks.answer(a, value);
         }
-        self.stacks.answer(a, value)
     }
 
     // A method's frame is put on top of the sender's.
     fn begin(&mut self, alloc: Global, a: u32, call: Call) -> Result<(), OutOfMemory>
         requires { IsBegun self.old.stacks a }
-        ensures { OnOk result (self.new ≡ spec.begun self.old a call) }
+        ensures { OnOk result (parts_of self.new ≡ spec.begun positions (parts_of self.old) a call) }
     {
         let pool = self.pools.pool_of(call.object, call.method.scope)?;
         let completes = self.stacks.first_message(a);
@@ -102,19 +104,23 @@ impl Parts {
     // An activity is begun that sends a Message's message, and the sender has the Message.
     fn start(&mut self, a: u32, message: u32) -> Result<(), OutOfMemory>
         requires { IsBegun self.old.stacks a }
-        ensures { OnOk result (self.new ≡ spec.started self.old a message) }
+        ensures { OnOk result (parts_of self.new ≡ spec.started positions (parts_of self.old) a message) }
     {
         begin_first(&mut self.stacks, message)?;
-        self.give(a, Some(Value::Ref(message)))
+        self.give(a, Some(Value::Ref(message)));
+        Ok(())
     }
 
     /// The sender of a message has this, or memory is wanted.
     pub(crate) fn reply(&mut self, alloc: Global, a: u32, reply: Reply) -> Result<(), OutOfMemory>
         requires { IsBegun self.old.stacks a }
-        ensures { OnOk result (self.new ≡ spec.with_reply self.old a reply) }
+        ensures { OnOk result (parts_of self.new ≡ spec.with_reply positions (parts_of self.old) a reply) }
     {
         match reply {
-            Reply::Gives(value) => self.give(a, value),
+            Reply::Gives(value) => {
+                self.give(a, value);
+                Ok(())
+            }
             Reply::Calls(call) => self.begin(alloc, a, call),
             Reply::Starts(message) => self.start(a, message),
         }

@@ -8,7 +8,7 @@ ghost use Rattle.rx_sends.specs.Calls as spec;
 
 use rx_classes::ClassTable;
 use rx_frames::{Frame, Own};
-use rx_tree::{Derived, FrameKind, OutOfMemory, Scope, Text, Value};
+use rx_tree::{Derived, FrameKind, OutOfMemory, Scope, Shared, Text, Value};
 use rx_vars::Vars;
 use sqlite_items::Items;
 use std::alloc::Global;
@@ -150,6 +150,7 @@ impl Call {
             scope: method.scope,
             pool,
         };
+        let args = Shared::new(alloc, args)?;
         let mut frame = Frame::new(alloc, FrameKind::Method, method.body, Some(own), args);
         frame.set_variables(variables);
         frame.set_asks(method.guarded);

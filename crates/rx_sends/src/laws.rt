@@ -5,11 +5,14 @@ ghost use Rattle.rx_classes.specs.Installing.{CanInstall};
 ghost use Rattle.rx_native.specs.Fitting.{Fits, IsThere};
 ghost use Rattle.rx_sends.specs.Keeping.{FitsAfter};
 ghost use Rattle.rx_sends.specs.Sending.{sent};
-ghost use Rattle.rx_sends.specs.declared.parts.Parts.{Parts};
+ghost use Rattle.rx_frames.specs.Frames.{positions};
+ghost use Rattle.rx_frames.specs.declared.position.Position.{Position};
+ghost use Rattle.rx_sends.specs.Parts.{Parts};
 ghost use Rattle.rx_sends.specs.declared.parts.Sent.{Sent};
 
 /// Whatever sending a message comes to, objects and classes fit still.
 pub fn sending_laws()
-    ensures fits { (facts : Facts) (parts : Parts) (a : ℕ) (message : Sent) → CanInstall parts.classes
-        → Fits parts.classes parts.heap → IsThere parts.heap message.target → FitsAfter (sent facts parts a message) }
+    ensures fits { (facts : Facts) (parts : Parts Position) (a : ℕ) (message : Sent)
+        → CanInstall parts.classes → Fits parts.classes parts.objects → IsThere parts.objects message.target
+        → FitsAfter (sent positions facts parts a message) }
 {}

@@ -3,10 +3,13 @@ ghost use Rattle.std.specs.Prelude.{◌≡◌};
 ghost use Rattle.std.specs.List.{list_any};
 ghost use Rattle.rx_builtin.specs.declared.facts.Facts.{Facts};
 ghost use Rattle.rx_frames.specs.Activities.{IsBegun, frames_at};
+ghost use Rattle.rx_frames.specs.Frames.{positions};
 ghost use Rattle.rx_native.specs.Fitting.{AreThere, Fits, IsThere};
+ghost use Rattle.rx_sends.specs.Refusals.{untrapped};
 ghost use Rattle.rx_sends.specs.Senders.{sender_of as sender};
 ghost use Rattle.rx_sends.specs.Sending.{Sends};
 ghost use Rattle.rx_sends.specs.Sending as spec;
+ghost use Rattle.rx_sends.specs.Parts.{parts_of};
 
 use crate::delivering::deliver;
 use crate::parts::{Parts, Sent};
@@ -40,6 +43,16 @@ fn traps_no_method(stacks: &Stacks, a: u32) -> bool
     }
 }
 
+// A refusal, as it is where NOMETHOD is trapped or not.
+fn untrapped(traps: bool, refused: SendRefused) -> SendRefused
+    ensures { result ≡ untrapped traps refused }
+{
+    match refused {
+        SendRefused::NoMethod if !traps => SendRefused::Raised(METHOD_NOT_FOUND),
+        refused => refused,
+    }
+}
+
 // Whether the frame on top is that of an internal routine.
 fn is_internal(stacks: &Stacks, a: u32) -> bool
     requires { IsBegun stacks.now a }
@@ -70,15 +83,12 @@ pub fn send(alloc: Global, parts: &mut Parts, a: u32, sent: Sent) -> Result<(), 
     requires args_there { AreThere parts.old.heap sent.args }
     requires fits { Fits parts.old.classes parts.old.heap }
     ensures sends { (facts : Facts) → facts.digits ≡ (sender parts.old.stacks a).digits
-        → Sends result parts.new (spec.sent facts parts.old a sent) }
+        → Sends result (parts_of parts.new) (spec.sent positions facts (parts_of parts.old) a sent) }
 {
     let sender = sender_of(&parts.stacks, a);
     match deliver(alloc, &mut parts.heap, &parts.classes, sender, sent) {
         Ok(reply) => Ok(parts.reply(alloc, a, reply)?),
-        Err(SendRefused::NoMethod) if !traps_no_method(&parts.stacks, a) => {
-            Err(SendRefused::Raised(METHOD_NOT_FOUND))
-        }
-        Err(refused) => Err(refused),
+        Err(refused) => Err(untrapped(traps_no_method(&parts.stacks, a), refused)),
     }
 }
 
@@ -93,7 +103,7 @@ pub fn forward(alloc: Global, parts: &mut Parts, a: u32, sent: Sent) -> Result<(
     requires args_there { AreThere parts.old.heap sent.args }
     requires fits { Fits parts.old.classes parts.old.heap }
     ensures sends { (facts : Facts) → facts.digits ≡ (sender parts.old.stacks a).digits
-        → Sends result parts.new (spec.forwarded facts parts.old a sent) }
+        → Sends result (parts_of parts.new) (spec.forwarded positions facts (parts_of parts.old) a sent) }
 {
     if is_internal(&parts.stacks, a) {
         return Err(SendRefused::Raised(EXECUTION_ERROR));

@@ -61,3 +61,18 @@ pub enum Outcome {
     /// It ended by the error of this number.
     Failed(u8),
 }
+
+/// How the answer of a call is awaited.
+#[derive(Clone, Copy, Debug, PartialEq, Eq)]
+pub enum Awaited {
+    /// Not at all, as behind `~~`: it is let go, and the receiver's value stands in its place.
+    Dropped,
+    /// As it comes, with a value or without one, as by a message clause.
+    Anything,
+    /// As the value of a message. 91 is raised where there is none.
+    Message,
+    /// As the value of a function. 44 is raised where there is none.
+    Function,
+    /// As the string of an object. 93 is raised where there is no value, or an object.
+    String,
+}

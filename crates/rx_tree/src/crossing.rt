@@ -5,6 +5,7 @@ use crate::expr::Expr;
 use crate::line::Package;
 use crate::name::Derived;
 use crate::note::Note;
+use crate::shared::Shared;
 use crate::text::Text;
 use crate::token::Token;
 use crate::value::Value;
@@ -45,6 +46,11 @@ pub fn caught_crosses(caught: &Caught) {
 /// A message's outcome may be sent and shared.
 pub fn outcome_crosses(outcome: &Outcome) {
     crosses_threads(outcome);
+}
+
+/// Arguments that several owners share may be sent and shared.
+pub fn arguments_cross(arguments: &Shared<Option<Value>>) {
+    crosses_threads(arguments);
 }
 
 /// A note may be sent and shared.

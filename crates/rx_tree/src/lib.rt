@@ -14,22 +14,24 @@ mod name;
 mod nesting;
 mod note;
 mod sent;
+mod shared;
 mod steps;
 mod stops;
 mod text;
 mod token;
 mod value;
 
-pub use activity::{Caught, Condition, FrameKind, Outcome, TraceSetting};
+pub use activity::{Awaited, Caught, Condition, FrameKind, Outcome, TraceSetting};
 pub use class::{ClassDef, MethodDef, Scope};
 pub use crossing::{
-    caught_crosses, derived_crosses, expr_crosses, note_crosses, outcome_crosses, package_crosses,
-    text_crosses, token_crosses, value_crosses,
+    arguments_cross, caught_crosses, derived_crosses, expr_crosses, note_crosses, outcome_crosses,
+    package_crosses, text_crosses, token_crosses, value_crosses,
 };
 pub use expr::{Expr, SendPart};
 pub use name::{Derived, Name, Part, Place};
 pub use note::Note;
 pub use sent::Sent;
+pub use shared::Shared;
 pub use steps::Steps;
 pub use stops::Stops;
 pub use text::{OutOfMemory, Text};

@@ -1,5 +1,6 @@
+use Rattle.rx_eval.proofs.FillLemmas.{filled_rest}
 use Rattle.rx_eval.proofs.LawLemmas.{suffices}
 use Rattle.rx_eval.proofs.laws.evaluation_laws.Goals as goal
 
 pub returns : goal.returns
-returns c = record { suffice = suffices }
+returns c = record { suffice = suffices; fills = filled_rest }

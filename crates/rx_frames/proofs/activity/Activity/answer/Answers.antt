@@ -1,20 +1,15 @@
 use Rattle.std.proofs.Common.{arith}
 use Rattle.rx_frames.specs.Frames.{with_answer}
 use Rattle.rx_frames.proofs.ActivityLemmas.{waiting-valued}
-use Rattle.rx_frames.proofs.RunLemmas.{kept-answered, kept-same}
+use Rattle.rx_frames.proofs.RunLemmas.{kept-answered}
 use Rattle.rx_frames.proofs.activity.Activity.answer.Goals as goal
 
 pub invariant_of-self : goal.invariant_of-self
 invariant_of-self c =
-    kept-same c.self.inside.runs.items c.self.inside.frames.items c.in-Some.place c.index_mut.result.now c.answer.new.self
-    c.self.invariant c.index_mut.ensures.value c.in_err-answer.ensures.err
-
-pub invariant_of-self-2 : goal.invariant_of-self-2
-invariant_of-self-2 c =
     kept-answered c.self.inside.runs.items c.self.inside.frames.items c.in-Some.place c.index_mut.result.now c.answer.new.self c.args.answer
-    c.self.invariant (omega (arith, c.self.inside.frames.ok.0)) c.index_mut.ensures.value c.in_ok-answer.ensures.ok
+    c.self.invariant (omega (arith, c.self.inside.frames.ok.0)) c.index_mut.ensures.value c.answer.ensures
 
-pub returns-clause-ok : goal.returns-clause-ok
-returns-clause-ok c =
+pub returns-in-Some : goal.returns-in-Some
+returns-in-Some c =
     waiting-valued c.self.inside.wait c.self.inside.frames.items c.args.self.now c.in-Some.place 0 c.index_mut.result.now c.answer.new.self
-    (with_answer c.args.answer) c.self.view_is (omega (arith, c.self.inside.frames.ok.0)) c.index_mut.ensures.value c.in_ok-answer.ensures.ok
+    (with_answer c.args.answer) c.self.view_is (omega (arith, c.self.inside.frames.ok.0)) c.index_mut.ensures.value c.answer.ensures
