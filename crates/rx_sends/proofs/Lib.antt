@@ -7,3 +7,6 @@ pub mod NativeClassLemmas
 pub mod KeepLemmas
 pub mod MethodFits
 pub mod MessageFits
+pub mod WaitLemmas
+pub mod MethodWaits
+pub mod MessageWaits
