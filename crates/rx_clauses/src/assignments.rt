@@ -16,7 +16,7 @@ use sqlite_items::{Boxed, Items};
 use std::alloc::{AllocError, Global};
 
 /// The operator of an assignment that a token is, if it is one.
-pub fn assigning_of(kind: &TokenKind) -> Option<Oper>
+pub(crate) fn assigning_of(kind: &TokenKind) -> Option<Oper>
     ensures { result ≡ words.assigning_of kind.now }
 {
     match kind {
@@ -88,7 +88,7 @@ fn assign_to(alloc: Global, tokens: &mut Cursor<'_>, name: Name) -> Result<Simpl
 }
 
 /// An assignment, from its variable on.
-pub fn assignment(alloc: Global, tokens: &mut Cursor<'_>) -> Result<Simple, Refused>
+pub(crate) fn assignment(alloc: Global, tokens: &mut Cursor<'_>) -> Result<Simple, Refused>
     ensures { Reads (spec.assignment tokens.old) result tokens.new }
 {
     let [token, behind @ ..] = tokens.rest() else {
@@ -102,7 +102,7 @@ pub fn assignment(alloc: Global, tokens: &mut Cursor<'_>) -> Result<Simple, Refu
 }
 
 /// What an assignment by a message gives its value to, behind its `=`.
-pub fn send_assign(
+pub(crate) fn send_assign(
     alloc: Global,
     tokens: &mut Cursor<'_>,
     receiver: Expr,
@@ -140,7 +140,7 @@ fn is_message_term(expr: &Expr) -> bool
 }
 
 /// A message clause.
-pub fn message(alloc: Global, tokens: &mut Cursor<'_>) -> Result<Simple, Refused>
+pub(crate) fn message(alloc: Global, tokens: &mut Cursor<'_>) -> Result<Simple, Refused>
     ensures { Reads (spec.message tokens.old) result tokens.new }
 {
     let here = tokens.rest();

@@ -27,7 +27,7 @@ use sqlite_items::{Boxed, Items};
 use std::alloc::Global;
 
 /// A clause that holds no other, with its line.
-pub fn simple_clause(line: u32, simple: Simple) -> Clause
+pub(crate) fn simple_clause(line: u32, simple: Simple) -> Clause
     ensures { result ≡ trees.clause line (x.Simple simple) }
 {
     Clause {
@@ -118,7 +118,7 @@ fn end_block(tokens: &mut Cursor<'_>, control: &Option<Name>, number: u8) -> Res
 /// in it.
 #[cycle(clause)]
 #[tactic(auto, using(crate::proofs::Ways::clauses))]
-pub fn clause(
+pub(crate) fn clause(
     alloc: Global,
     tokens: &mut Cursor<'_>,
     loops: &mut Items<Option<Name>>,

@@ -108,7 +108,7 @@ fn body_clause(
 
 /// The clauses of a body, up to a directive or the end of the tokens.
 #[tactic(auto, using(crate::proofs::BodyForms::bodies))]
-pub fn body_clauses(alloc: Global, tokens: &mut Cursor<'_>) -> Result<Items<Clause>, Refused>
+pub(crate) fn body_clauses(alloc: Global, tokens: &mut Cursor<'_>) -> Result<Items<Clause>, Refused>
     ensures { Reads (body_form Nothing tokens.old) result tokens.new }
 {
     let mut found = Items::new(alloc);

@@ -124,7 +124,7 @@ fn option(alloc: Global, tokens: &mut Cursor<'_>, read: Forward) -> Result<Forwa
 
 /// The options of FORWARD, and the end of the clause.
 #[tactic(auto, using(crate::proofs::Lists::options_is))]
-pub fn forward(alloc: Global, tokens: &mut Cursor<'_>) -> Result<Forward, Refused>
+pub(crate) fn forward(alloc: Global, tokens: &mut Cursor<'_>) -> Result<Forward, Refused>
     ensures { Reads (spec.forward tokens.old) result tokens.new }
 {
     options(alloc, tokens, no_options())

@@ -88,7 +88,7 @@ fn beside(name: &[u8], table: &[(&[u8], Keyword)]) -> Option<Keyword>
 }
 
 /// The word of an instruction that a token is, if it is one.
-pub fn keyword_of(kind: &TokenKind) -> Option<Keyword>
+pub(crate) fn keyword_of(kind: &TokenKind) -> Option<Keyword>
     ensures { result ≡ spec.keyword_of kind.now }
 {
     match kind {

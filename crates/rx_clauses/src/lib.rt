@@ -24,4 +24,4 @@ pub use keyword::{Keyword, Word};
 pub use laws::clause_laws;
 pub use parser::{parse_clauses, read_body};
 pub use start::Start;
-pub use tokens::{eat_end, eat_word, is_word, symbol_of, to_end, variable_of};
+pub use tokens::{eat_end, eat_word, is_word, to_end, variable_of};

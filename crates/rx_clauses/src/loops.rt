@@ -141,7 +141,7 @@ fn controlled(alloc: Global, tokens: &mut Cursor<'_>) -> Result<Header, Refused>
 }
 
 /// The header of DO or LOOP.
-pub fn header(alloc: Global, tokens: &mut Cursor<'_>) -> Result<Header, Refused>
+pub(crate) fn header(alloc: Global, tokens: &mut Cursor<'_>) -> Result<Header, Refused>
     ensures { Reads (spec.header tokens.old) result tokens.new }
 {
     if begins_control(tokens.rest()) {
@@ -157,7 +157,7 @@ pub fn header(alloc: Global, tokens: &mut Cursor<'_>) -> Result<Header, Refused>
 }
 
 /// WHILE, UNTIL or neither, and the end of the clause.
-pub fn test(alloc: Global, tokens: &mut Cursor<'_>) -> Result<Test, Refused>
+pub(crate) fn test(alloc: Global, tokens: &mut Cursor<'_>) -> Result<Test, Refused>
     ensures { Reads (spec.test tokens.old) result tokens.new }
 {
     if eat_end(tokens) {
@@ -175,7 +175,7 @@ pub fn test(alloc: Global, tokens: &mut Cursor<'_>) -> Result<Test, Refused>
 }
 
 /// A variable that may be omitted, and the end of the clause.
-pub fn loop_name(alloc: Global, tokens: &mut Cursor<'_>) -> Result<Option<Name>, Refused>
+pub(crate) fn loop_name(alloc: Global, tokens: &mut Cursor<'_>) -> Result<Option<Name>, Refused>
     ensures { Reads (spec.loop_name tokens.old) result tokens.new }
 {
     if eat_end(tokens) {
@@ -186,7 +186,7 @@ pub fn loop_name(alloc: Global, tokens: &mut Cursor<'_>) -> Result<Option<Name>,
 }
 
 /// The variable that a loop runs by.
-pub fn control_of(alloc: Global, header: &Header) -> Result<Option<Name>, OutOfMemory>
+pub(crate) fn control_of(alloc: Global, header: &Header) -> Result<Option<Name>, OutOfMemory>
     ensures { IfOk result (λ name. name ≡ trees.control_of header.now) }
 {
     match header {

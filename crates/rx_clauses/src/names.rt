@@ -37,7 +37,7 @@ fn same_tail(a: &[Part], b: &[Part]) -> bool
 }
 
 /// Whether two names are the same.
-pub fn same_name(a: &Name, b: &Name) -> bool
+pub(crate) fn same_name(a: &Name, b: &Name) -> bool
     ensures { result ≡ words.same_name a.now b.now }
 {
     match (a, b) {
@@ -51,7 +51,7 @@ pub fn same_name(a: &Name, b: &Name) -> bool
 }
 
 /// Whether a token is the symbol of a variable.
-pub fn is_symbol_of(kind: &TokenKind, name: &Name) -> bool
+pub(crate) fn is_symbol_of(kind: &TokenKind, name: &Name) -> bool
     ensures { result ≡ loops.is_name name.now (words.variable_of kind.now) }
 {
     match (name, kind) {

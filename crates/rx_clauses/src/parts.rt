@@ -12,7 +12,7 @@ use sqlite_items::{Boxed, Items};
 use std::alloc::Global;
 
 /// An expression, and the end of the clause.
-pub fn last_expression(alloc: Global, tokens: &mut Cursor<'_>) -> Result<Expr, Refused>
+pub(crate) fn last_expression(alloc: Global, tokens: &mut Cursor<'_>) -> Result<Expr, Refused>
     ensures { Reads (spec.last_expression tokens.old) result tokens.new }
 {
     let expr = read_expr(alloc, tokens, Stops::Nothing)?;
@@ -20,7 +20,7 @@ pub fn last_expression(alloc: Global, tokens: &mut Cursor<'_>) -> Result<Expr, R
 }
 
 /// An expression that may be omitted, and the end of the clause.
-pub fn given(alloc: Global, tokens: &mut Cursor<'_>) -> Result<Option<Expr>, Refused>
+pub(crate) fn given(alloc: Global, tokens: &mut Cursor<'_>) -> Result<Option<Expr>, Refused>
     ensures { Reads (spec.given tokens.old) result tokens.new }
 {
     if eat_end(tokens) {
@@ -43,7 +43,7 @@ fn names(alloc: Global, tokens: &mut Cursor<'_>) -> Result<Items<Name>, Refused>
 }
 
 /// Variables side by side, one at least, and the end of the clause.
-pub fn some_names(alloc: Global, tokens: &mut Cursor<'_>) -> Result<Items<Name>, Refused>
+pub(crate) fn some_names(alloc: Global, tokens: &mut Cursor<'_>) -> Result<Items<Name>, Refused>
     ensures { Reads (spec.some_names tokens.old) result tokens.new }
 {
     let here = tokens.rest();
@@ -91,7 +91,10 @@ fn listed(alloc: Global, tokens: &mut Cursor<'_>) -> Result<Items<Option<Expr>>,
 
 /// Arguments of CALL with commas between them, and the end of the clause.
 #[tactic(auto, using(crate::proofs::Lists::arguments_is))]
-pub fn arguments(alloc: Global, tokens: &mut Cursor<'_>) -> Result<Items<Option<Expr>>, Refused>
+pub(crate) fn arguments(
+    alloc: Global,
+    tokens: &mut Cursor<'_>,
+) -> Result<Items<Option<Expr>>, Refused>
     ensures { Reads (spec.arguments tokens.old) result tokens.new }
 {
     if eat_end(tokens) {
@@ -101,7 +104,7 @@ pub fn arguments(alloc: Global, tokens: &mut Cursor<'_>) -> Result<Items<Option<
 }
 
 /// An expression in parentheses; another token is refused by this number.
-pub fn group(alloc: Global, tokens: &mut Cursor<'_>, number: u8) -> Result<Expr, Refused>
+pub(crate) fn group(alloc: Global, tokens: &mut Cursor<'_>, number: u8) -> Result<Expr, Refused>
     ensures { Reads (spec.group number tokens.old) result tokens.new }
 {
     if !tokens.left_paren() {

@@ -17,7 +17,7 @@ use sqlite_items::Items;
 use std::alloc::Global;
 
 /// DROP, behind its word.
-pub fn drop_names(alloc: Global, tokens: &mut Cursor<'_>) -> Result<Simple, Refused>
+pub(crate) fn drop_names(alloc: Global, tokens: &mut Cursor<'_>) -> Result<Simple, Refused>
     ensures { Reads (spec.drop_names tokens.old) result tokens.new }
 {
     Ok(Simple::Drop(some_names(alloc, tokens)?))
@@ -75,7 +75,7 @@ fn use_args(alloc: Global, tokens: &mut Cursor<'_>, strict: bool) -> Result<Simp
 }
 
 /// USE, behind its word.
-pub fn use_instruction(alloc: Global, tokens: &mut Cursor<'_>) -> Result<Simple, Refused>
+pub(crate) fn use_instruction(alloc: Global, tokens: &mut Cursor<'_>) -> Result<Simple, Refused>
     ensures { Reads (spec.use_ tokens.old) result tokens.new }
 {
     let strict = eat_word(tokens, b"STRICT");
@@ -83,7 +83,7 @@ pub fn use_instruction(alloc: Global, tokens: &mut Cursor<'_>) -> Result<Simple,
 }
 
 /// NUMERIC, behind its word.
-pub fn digits(alloc: Global, tokens: &mut Cursor<'_>) -> Result<Simple, Refused>
+pub(crate) fn digits(alloc: Global, tokens: &mut Cursor<'_>) -> Result<Simple, Refused>
     ensures { Reads (spec.digits tokens.old) result tokens.new }
 {
     if !eat_word(tokens, b"DIGITS") {
@@ -106,7 +106,7 @@ fn guard_test(alloc: Global, tokens: &mut Cursor<'_>) -> Result<Option<Expr>, Re
 }
 
 /// GUARD, behind its word.
-pub fn guard(alloc: Global, tokens: &mut Cursor<'_>) -> Result<Simple, Refused>
+pub(crate) fn guard(alloc: Global, tokens: &mut Cursor<'_>) -> Result<Simple, Refused>
     ensures { Reads (spec.guard tokens.old) result tokens.new }
 {
     if eat_word(tokens, b"ON") {
@@ -168,7 +168,7 @@ fn raise_user(alloc: Global, tokens: &mut Cursor<'_>) -> Result<Simple, Refused>
 }
 
 /// RAISE, behind its word.
-pub fn raise(alloc: Global, tokens: &mut Cursor<'_>) -> Result<Simple, Refused>
+pub(crate) fn raise(alloc: Global, tokens: &mut Cursor<'_>) -> Result<Simple, Refused>
     ensures { Reads (spec.raise tokens.old) result tokens.new }
 {
     if eat_word(tokens, b"SYNTAX") {
@@ -208,7 +208,7 @@ fn setting(tokens: &mut Cursor<'_>) -> Result<TraceSetting, Refused>
 }
 
 /// TRACE, behind its word.
-pub fn trace(tokens: &mut Cursor<'_>) -> Result<Simple, Refused>
+pub(crate) fn trace(tokens: &mut Cursor<'_>) -> Result<Simple, Refused>
     ensures { Reads (spec.trace tokens.old) result tokens.new }
 {
     let setting = setting(tokens)?;

@@ -73,7 +73,7 @@ fn meant(
 
 /// An instruction that holds no other clause, behind its word.
 #[tactic(auto, using(crate::proofs::Ways::meants), unfolding(crate::specs::Reader::simple))]
-pub fn read_simple(
+pub(crate) fn read_simple(
     alloc: Global,
     tokens: &mut Cursor<'_>,
     loops: &[Option<Name>],

@@ -148,7 +148,7 @@ fn assigned(alloc: Global, tokens: &mut Cursor<'_>) -> Result<Option<(Expr, Send
 
 /// What a clause begins with. Of an assignment by a message its receiver, last message and `=` are taken, and else nothing.
 #[tactic(auto, unfolding(crate::specs::Reader::start))]
-pub fn start_of(alloc: Global, tokens: &mut Cursor<'_>) -> Result<Start, OutOfMemory>
+pub(crate) fn start_of(alloc: Global, tokens: &mut Cursor<'_>) -> Result<Start, OutOfMemory>
     ensures { IfOk result (λ found. reader.start tokens.old ≡ (found, tokens.new)) }
 {
     let here = tokens.rest();

@@ -202,7 +202,7 @@ fn has_templates(from: &ParseFrom, templates: &[Template]) -> bool
 
 /// The templates of a text, and the end of the clause.
 #[tactic(auto, using(crate::proofs::Lists::templates_is))]
-pub fn parse_by(
+pub(crate) fn parse_by(
     alloc: Global,
     tokens: &mut Cursor<'_>,
     upper: bool,
@@ -224,7 +224,7 @@ pub fn parse_by(
 }
 
 /// PARSE, behind its word.
-pub fn parse(alloc: Global, tokens: &mut Cursor<'_>) -> Result<Parse, Refused>
+pub(crate) fn parse(alloc: Global, tokens: &mut Cursor<'_>) -> Result<Parse, Refused>
     ensures { Reads (spec.parse tokens.old) result tokens.new }
 {
     let upper = eat_word(tokens, b"UPPER");

@@ -14,7 +14,7 @@ use rx_tree::{Name, Oper, OutOfMemory, Part, Text, TokenKind};
 use std::alloc::Global;
 
 /// Whether two texts have the same bytes.
-pub fn same(a: &[u8], b: &[u8]) -> bool
+pub(crate) fn same(a: &[u8], b: &[u8]) -> bool
     ensures { result ≡ bytes_eq a.now b.now }
 {
     a == b
@@ -47,7 +47,7 @@ pub fn variable_of(alloc: Global, kind: &TokenKind) -> Result<Option<Name>, OutO
 }
 
 /// Whether a token names a variable.
-pub fn is_variable(kind: &TokenKind) -> bool
+pub(crate) fn is_variable(kind: &TokenKind) -> bool
     ensures { result ≡ is_some (words.variable_of kind.now) }
 {
     matches!(
@@ -57,7 +57,7 @@ pub fn is_variable(kind: &TokenKind) -> bool
 }
 
 /// The text of a symbol that a token is, if it is one.
-pub fn symbol_of(alloc: Global, kind: &TokenKind) -> Result<Option<Text>, OutOfMemory>
+pub(crate) fn symbol_of(alloc: Global, kind: &TokenKind) -> Result<Option<Text>, OutOfMemory>
     ensures { IfOk result (λ name. name ≡ words.symbol_of kind.now) }
 {
     match kind {
@@ -67,7 +67,7 @@ pub fn symbol_of(alloc: Global, kind: &TokenKind) -> Result<Option<Text>, OutOfM
 }
 
 /// The line of the first token, and 0 where there is none.
-pub fn line_of(tokens: &Cursor<'_>) -> u32
+pub(crate) fn line_of(tokens: &Cursor<'_>) -> u32
     ensures { result ≡ line_of tokens.now }
 {
     match tokens.rest() {
@@ -77,7 +77,7 @@ pub fn line_of(tokens: &Cursor<'_>) -> u32
 }
 
 /// Goes behind the first token.
-pub fn go_on(tokens: &mut Cursor<'_>)
+pub(crate) fn go_on(tokens: &mut Cursor<'_>)
     ensures { tokens.new ≡ behind tokens.old }
 {
     if let [_, behind @ ..] = tokens.rest() {
@@ -86,7 +86,7 @@ pub fn go_on(tokens: &mut Cursor<'_>)
 }
 
 /// Whether the symbol of a word stands here.
-pub fn sees_word(tokens: &Cursor<'_>, word: &[u8]) -> bool
+pub(crate) fn sees_word(tokens: &Cursor<'_>, word: &[u8]) -> bool
     ensures { result ≡ words.begins_word word.now tokens.now }
 {
     match tokens.rest() {
@@ -122,7 +122,7 @@ pub fn eat_end(tokens: &mut Cursor<'_>) -> bool
 }
 
 /// Takes the end of a clause, where one stands here.
-pub fn skip_end(tokens: &mut Cursor<'_>)
+pub(crate) fn skip_end(tokens: &mut Cursor<'_>)
     ensures { tokens.new ≡ words.skip tokens.old }
 {
     if let [token, behind @ ..] = tokens.rest() {
@@ -133,7 +133,7 @@ pub fn skip_end(tokens: &mut Cursor<'_>)
 }
 
 /// Takes a word, and the clause end behind it where one stands there.
-pub fn eat_word_and_end(tokens: &mut Cursor<'_>, word: &[u8]) -> bool
+pub(crate) fn eat_word_and_end(tokens: &mut Cursor<'_>, word: &[u8]) -> bool
     ensures { Eats (words.behind_word word.now tokens.old) result tokens.old tokens.new }
 {
     if let [token, behind @ ..] = tokens.rest() {
@@ -147,7 +147,7 @@ pub fn eat_word_and_end(tokens: &mut Cursor<'_>, word: &[u8]) -> bool
 }
 
 /// Takes `THEN`, with the clause ends before and behind it where they stand there.
-pub fn eat_then(tokens: &mut Cursor<'_>) -> bool
+pub(crate) fn eat_then(tokens: &mut Cursor<'_>) -> bool
     ensures { Eats (behind_then tokens.old) result tokens.old tokens.new }
 {
     let here = tokens.rest();
@@ -160,7 +160,7 @@ pub fn eat_then(tokens: &mut Cursor<'_>) -> bool
 }
 
 /// Takes a comma.
-pub fn eat_comma(tokens: &mut Cursor<'_>) -> bool
+pub(crate) fn eat_comma(tokens: &mut Cursor<'_>) -> bool
     ensures { Eats (spec.behind_comma tokens.old) result tokens.old tokens.new }
 {
     if let [token, behind @ ..] = tokens.rest() {
@@ -183,7 +183,7 @@ fn no_variable(kind: &TokenKind) -> u8
 }
 
 /// Takes a variable.
-pub fn variable(alloc: Global, tokens: &mut Cursor<'_>) -> Result<Name, Refused>
+pub(crate) fn variable(alloc: Global, tokens: &mut Cursor<'_>) -> Result<Name, Refused>
     ensures { Reads (spec.variable_at tokens.old) result tokens.new }
 {
     let [token, behind @ ..] = tokens.rest() else {
@@ -197,7 +197,7 @@ pub fn variable(alloc: Global, tokens: &mut Cursor<'_>) -> Result<Name, Refused>
 }
 
 /// Takes a symbol.
-pub fn symbol(alloc: Global, tokens: &mut Cursor<'_>) -> Result<Text, Refused>
+pub(crate) fn symbol(alloc: Global, tokens: &mut Cursor<'_>) -> Result<Text, Refused>
     ensures { Reads (spec.symbol_at tokens.old) result tokens.new }
 {
     if let [token, behind @ ..] = tokens.rest() {
@@ -210,14 +210,14 @@ pub fn symbol(alloc: Global, tokens: &mut Cursor<'_>) -> Result<Text, Refused>
 }
 
 /// Whether a token is an `=`.
-pub fn is_equal(kind: &TokenKind) -> bool
+pub(crate) fn is_equal(kind: &TokenKind) -> bool
     ensures { result ≡ words.is_equal kind.now }
 {
     matches!(kind, TokenKind::Operator(Oper::Equal))
 }
 
 /// Whether a body ends here: at a directive, or with the tokens.
-pub fn sees_body_end(tokens: &Cursor<'_>) -> bool
+pub(crate) fn sees_body_end(tokens: &Cursor<'_>) -> bool
     ensures { result ≡ ends_body tokens.now }
 {
     match tokens.rest() {
@@ -227,7 +227,11 @@ pub fn sees_body_end(tokens: &Cursor<'_>) -> bool
 }
 
 /// What was found, where the clause ends behind it; or the refusal of what stands there by a number.
-pub fn to_end_by<T: Drop>(found: T, tokens: &mut Cursor<'_>, number: u8) -> Result<T, Refused>
+pub(crate) fn to_end_by<T: Drop>(
+    found: T,
+    tokens: &mut Cursor<'_>,
+    number: u8,
+) -> Result<T, Refused>
     ensures { Reads (spec.to_end_by number found tokens.old) result tokens.new }
 {
     if eat_end(tokens) {

@@ -105,7 +105,7 @@ fn call_named(alloc: Global, tokens: &mut Cursor<'_>) -> Result<Simple, Refused>
 }
 
 /// CALL, behind its word.
-pub fn call(alloc: Global, tokens: &mut Cursor<'_>) -> Result<Simple, Refused>
+pub(crate) fn call(alloc: Global, tokens: &mut Cursor<'_>) -> Result<Simple, Refused>
     ensures { Reads (spec.call tokens.old) result tokens.new }
 {
     let [token, behind @ ..] = tokens.rest() else {
@@ -148,7 +148,7 @@ fn signal_label(alloc: Global, tokens: &mut Cursor<'_>) -> Result<Simple, Refuse
 }
 
 /// SIGNAL, behind its word.
-pub fn signal(alloc: Global, tokens: &mut Cursor<'_>) -> Result<Simple, Refused>
+pub(crate) fn signal(alloc: Global, tokens: &mut Cursor<'_>) -> Result<Simple, Refused>
     ensures { Reads (spec.signal tokens.old) result tokens.new }
 {
     let [token, behind @ ..] = tokens.rest() else {

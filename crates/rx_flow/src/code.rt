@@ -46,14 +46,14 @@ fn numbered(count: usize) -> Result<u32, OutOfMemory>
 }
 
 /// The place behind the last op.
-pub fn here(code: &Code) -> Result<u32, OutOfMemory>
+pub(crate) fn here(code: &Code) -> Result<u32, OutOfMemory>
     ensures { IfOk result (λ place. place ≡ length code.now.ops) }
 {
     numbered(code.ops.len())
 }
 
 /// Appends an op.
-pub fn put(code: &mut Code, op: Op) -> Result<(), OutOfMemory>
+pub(crate) fn put(code: &mut Code, op: Op) -> Result<(), OutOfMemory>
     ensures { OnOk result (code.new ≡ with_op code.old op) }
 {
     code.ops.push(op)?;
@@ -61,14 +61,14 @@ pub fn put(code: &mut Code, op: Op) -> Result<(), OutOfMemory>
 }
 
 /// The number of the clause that is kept next.
-pub fn next_number(code: &Code) -> Result<u32, OutOfMemory>
+pub(crate) fn next_number(code: &Code) -> Result<u32, OutOfMemory>
     ensures { IfOk result (λ number. number ≡ length code.now.clauses) }
 {
     numbered(code.clauses.len())
 }
 
 /// Appends a clause.
-pub fn keep(code: &mut Code, clause: Clause) -> Result<(), OutOfMemory>
+pub(crate) fn keep(code: &mut Code, clause: Clause) -> Result<(), OutOfMemory>
     ensures { OnOk result (code.new ≡ with_entry code.old clause) }
 {
     code.clauses.push(clause)?;
@@ -76,7 +76,7 @@ pub fn keep(code: &mut Code, clause: Clause) -> Result<(), OutOfMemory>
 }
 
 /// Puts an op at a place that has one.
-pub fn patch(code: &mut Code, place: u32, op: Op)
+pub(crate) fn patch(code: &mut Code, place: u32, op: Op)
     requires { place < length code.old.ops }
     ensures { code.new ≡ with_set code.old place op }
 {

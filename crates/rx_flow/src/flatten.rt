@@ -228,7 +228,11 @@ fn flatten_loop(
 
 /// Appends the code of a clause.
 #[cycle(flatten)]
-pub fn flatten_clause(alloc: Global, code: &mut Code, clause: &Clause) -> Result<(), OutOfMemory>
+pub(crate) fn flatten_clause(
+    alloc: Global,
+    code: &mut Code,
+    clause: &Clause,
+) -> Result<(), OutOfMemory>
     ensures { OnOk result (Laid code.old code.new (plan clause.now)) }
 {
     let line = clause.line;

@@ -11,7 +11,7 @@ use sqlite_items::{Boxed, Items};
 use std::alloc::Global;
 
 /// What is kept of a clause that holds no other: all of it.
-pub fn kept_simple(alloc: Global, line: u32, simple: &Simple) -> Result<Clause, OutOfMemory>
+pub(crate) fn kept_simple(alloc: Global, line: u32, simple: &Simple) -> Result<Clause, OutOfMemory>
     ensures { IfOk result (λ clause. clause ≡ made line (kind.Simple simple.now)) }
 {
     let kind = ClauseKind::Simple(simple.share(alloc)?);
@@ -27,7 +27,7 @@ fn nop(alloc: Global, line: u32) -> Result<Boxed<Clause>, OutOfMemory>
 }
 
 /// What is kept of a clause that tests an expression.
-pub fn kept_test(alloc: Global, line: u32, test: &Expr) -> Result<Clause, OutOfMemory>
+pub(crate) fn kept_test(alloc: Global, line: u32, test: &Expr) -> Result<Clause, OutOfMemory>
     ensures { IfOk result (λ clause. clause ≡ kept.kept_test line test.now) }
 {
     let test = test.share(alloc)?;
@@ -37,7 +37,7 @@ pub fn kept_test(alloc: Global, line: u32, test: &Expr) -> Result<Clause, OutOfM
 }
 
 /// What is kept of a SELECT, with OTHERWISE or without it.
-pub fn kept_select(alloc: Global, line: u32, otherwise: bool) -> Clause
+pub(crate) fn kept_select(alloc: Global, line: u32, otherwise: bool) -> Clause
     ensures { result ≡ kept.select_of line otherwise }
 {
     let others = if otherwise {
@@ -52,7 +52,7 @@ pub fn kept_select(alloc: Global, line: u32, otherwise: bool) -> Clause
 }
 
 /// What is kept of a group.
-pub fn kept_group(alloc: Global, line: u32) -> Clause
+pub(crate) fn kept_group(alloc: Global, line: u32) -> Clause
     ensures { result ≡ made line (kind.Group []) }
 {
     Clause {
@@ -62,7 +62,7 @@ pub fn kept_group(alloc: Global, line: u32) -> Clause
 }
 
 /// What is kept of a loop.
-pub fn kept_loop(
+pub(crate) fn kept_loop(
     alloc: Global,
     line: u32,
     header: &Header,
