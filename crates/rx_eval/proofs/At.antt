@@ -12,7 +12,7 @@ use Rattle.rx_eval.specs.declared.code.Instr.TheVariants as i
 use Rattle.rx_operators.specs.Families.{is_join}
 use Rattle.rx_eval.specs.declared.call.Pending.{Pending}
 use Rattle.rx_eval.specs.declared.code.Sending.{Sending}
-use Rattle.rx_eval.specs.declared.facts.Body.{Body}
+use Rattle.rx_eval.specs.Bodies.{Body}
 use Rattle.rx_eval.specs.Calling.{wants_strings}
 use Rattle.rx_eval.specs.Reading.{Scene, object_named}
 use Rattle.rx_eval.specs.Evaluation.{Done, wanted, AllFound, AllDone, AllRaise, AllNoValue, AllCall, evaluate_all}

@@ -24,7 +24,7 @@ use Rattle.rx_eval.specs.declared.code.Callee.{Callee}
 use Rattle.rx_eval.specs.declared.code.Callee.TheVariants as callees
 use Rattle.rx_eval.specs.declared.code.Calling.{Calling}
 use Rattle.rx_eval.specs.declared.code.Sending.{Sending}
-use Rattle.rx_eval.specs.declared.facts.Body.{Body}
+use Rattle.rx_eval.specs.Bodies.{Body}
 use Rattle.rx_eval.specs.Built.{IsSending}
 use Rattle.rx_eval.specs.Calling.{callee, wants_strings}
 use Rattle.rx_eval.specs.Reading.{object_named}

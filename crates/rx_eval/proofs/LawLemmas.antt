@@ -53,7 +53,7 @@ first_next P before name names s rest false is h =
     All-cons P name names p
     (rest (name ∷ before) (λ y. one_more P before name y p s (same_name name y) refl) (All-tail P name (first_of_each (name ∷ before) names) h))
 
-all_first : (P : Derived → Type 0) (names before : List Derived) → ((y : Derived) → stands before y ≡ true → P y) → All P (first_of_each before names) → All P names
+pub all_first : (P : Derived → Type 0) (names before : List Derived) → ((y : Derived) → stands before y ≡ true → P y) → All P (first_of_each before names) → All P names
 all_first P [] before s h = All-nil P
 all_first P (name ∷ names) before s h = first_next P before name names s (all_first P names) (stands before name) refl h
 
@@ -70,7 +70,7 @@ each_same f g (name ∷ names) h =
     All-cons (Same f g) name names (All-head (Given g) (name, read f.reads name) entries h)
     (each_same f g names (All-tail (Given g) (name, read f.reads name) entries h))
 
-abbrev IfKnown : (Derived → Type 0) → Named → Type 0
+abbrev pub IfKnown : (Derived → Type 0) → Named → Type 0
 IfKnown P (Known name) = P name
 IfKnown P _ = Unit {0}
 
@@ -80,16 +80,19 @@ known_next P (Missing name) rest h = (tt, h)
 known_next P TooLong rest h = (tt, h)
 
 -- a name stands for a variable that has the same value in both
-abbrev Reads : Facts → Facts → Name → Type 0
-Reads f g name = IfKnown (Same f g) (derive false (read f.reads) name)
+abbrev pub Stays : (Derived → Option Value) → (Derived → Option Value) → Name → Type 0
+Stays value other name = IfKnown (λ derived. other derived ≡ value derived) (derive false value name)
 
-each_known : (f g : Facts) (names : List Name) → All (Same f g) (derived_names (read f.reads) names) → All (Reads f g) names
-each_known f g [] h = All-nil (Reads f g)
-each_known f g (name ∷ names) h =
-    let both = known_next (Same f g) (derive false (read f.reads) name) (derived_names (read f.reads) names) h in
-    All-cons (Reads f g) name names both.0 (each_known f g names both.1)
+abbrev pub Reads : Facts → Facts → Name → Type 0
+Reads f g name = Stays (read f.reads) (read g.reads) name
 
-split_all : {X : Type 0} (P : X → Type 0) (first second : List X) → All P (first ++ second) → All P first × All P second
+pub each_known : (value other : Derived → Option Value) (names : List Name) → All (λ derived. other derived ≡ value derived) (derived_names value names) → All (Stays value other) names
+each_known value other [] h = All-nil (Stays value other)
+each_known value other (name ∷ names) h =
+    let both = known_next (λ derived. other derived ≡ value derived) (derive false value name) (derived_names value names) h in
+    All-cons (Stays value other) name names both.0 (each_known value other names both.1)
+
+pub split_all : {X : Type 0} (P : X → Type 0) (first second : List X) → All P (first ++ second) → All P first × All P second
 split_all P [] second h = (All-nil P, h)
 split_all P (x ∷ first) second h =
     let rest = split_all P first second (All-tail P x (first ++ second) h) in
@@ -97,18 +100,18 @@ split_all P (x ∷ first) second h =
 
 -- ---- names with the values of their tails
 
-parts_same : (f g : Facts) (novalue : Bool) (parts : List Part) → All (Reads f g) (tail_names parts) → part_texts novalue (read f.reads) parts ≡ part_texts novalue (read g.reads) parts
-parts_same f g novalue [] h = refl
-parts_same f g novalue (Fixed text ∷ parts) h = ap (with_text (Ok text)) (parts_same f g novalue parts h)
-parts_same f g novalue (Of name ∷ parts) h =
-    let one : read g.reads (d.Simple name) ≡ read f.reads (d.Simple name) = All-head (Reads f g) (n.Simple name) (tail_names parts) h in
-    ap (λ value. with_text (or_own novalue name value) (part_texts novalue (read f.reads) parts)) (sym one)
-    ∙ ap (with_text (or_own novalue name (read g.reads (d.Simple name)))) (parts_same f g novalue parts (All-tail (Reads f g) (n.Simple name) (tail_names parts) h))
+parts_same : (value other : Derived → Option Value) (novalue : Bool) (parts : List Part) → All (Stays value other) (tail_names parts) → part_texts novalue value parts ≡ part_texts novalue other parts
+parts_same value other novalue [] h = refl
+parts_same value other novalue (Fixed text ∷ parts) h = ap (with_text (Ok text)) (parts_same value other novalue parts h)
+parts_same value other novalue (Of name ∷ parts) h =
+    let one : other (d.Simple name) ≡ value (d.Simple name) = All-head (Stays value other) (n.Simple name) (tail_names parts) h in
+    ap (λ found. with_text (or_own novalue name found) (part_texts novalue value parts)) (sym one)
+    ∙ ap (with_text (or_own novalue name (other (d.Simple name)))) (parts_same value other novalue parts (All-tail (Stays value other) (n.Simple name) (tail_names parts) h))
 
-derive_same : (f g : Facts) (novalue : Bool) (name : Name) → All (Reads f g) (tail_of name) → derive novalue (read f.reads) name ≡ derive novalue (read g.reads) name
-derive_same f g novalue (n.Simple name) h = refl
-derive_same f g novalue (n.Stem stem) h = refl
-derive_same f g novalue (n.Compound stem parts) h = ap (compound_of stem) (parts_same f g novalue parts h)
+pub derive_same : (value other : Derived → Option Value) (novalue : Bool) (name : Name) → All (Stays value other) (tail_of name) → derive novalue value name ≡ derive novalue other name
+derive_same value other novalue (n.Simple name) h = refl
+derive_same value other novalue (n.Stem stem) h = refl
+derive_same value other novalue (n.Compound stem parts) h = ap (compound_of stem) (parts_same value other novalue parts h)
 
 -- where NOVALUE is trapped, what is known is known without it
 
@@ -148,7 +151,7 @@ named_same f g a name h TooLong p = refl
 variable_same : (f g : Facts) → AreAlike f g → (name : Name) → All (Reads f g) (tail_of name) → Reads f g name → variable f name ≡ variable g name
 variable_same f g a name t h =
     named_same f g a name h (derive f.novalue (read f.reads) name) refl
-    ∙ ap (named g) (derive_same f g f.novalue name t ∙ ap (λ novalue. derive novalue (read g.reads) name) a.novalue)
+    ∙ ap (named g) (derive_same (read f.reads) (read g.reads) f.novalue name t ∙ ap (λ novalue. derive novalue (read g.reads) name) a.novalue)
 
 symbol_by : (f g : Facts) → AreAlike f g → (name : List ℕ) (object : Option ℕ) (is : Bool) → is_environment name ≡ is
     → All (Reads f g) (if is then [] else n.Simple name ∷ []) → symbol f name object ≡ symbol g name object
@@ -219,7 +222,7 @@ step_both : (one other : Scene) (code : List Instr) (at : ℕ) (all same : AllFo
     → ((values : List Value) → IsPlace code (at + 1) values → evaluate_all one (partial code (at + 1) values) ≡ evaluate_all other (partial code (at + 1) values)) → all ≡ same
 step_both one other code at all same moved also is h k rest = step_same one other code at all same moved h (subst (IsStepped other code at same) (sym is) k) rest
 
-code_same : (code : Code) (f g : Facts) → AreAlike f g → fits code.body code.instrs [] ≡ true → (more at : ℕ) (values : List Value) → length code.instrs ≤ at + more
+pub code_same : (code : Code) (f g : Facts) → AreAlike f g → fits code.body code.instrs [] ≡ true → (more at : ℕ) (values : List Value) → length code.instrs ≤ at + more
     → IsPlace code.instrs at values → All (Reads f g) (names_in (drop at code.instrs))
     → evaluate_all (scene code f) (partial code.instrs at values) ≡ evaluate_all (scene code g) (partial code.instrs at values)
 code_same code f g a fit zero at values within place h =
@@ -241,6 +244,6 @@ pub suffices : ReadsSuffice
 suffices code f g place values fit placed a h =
     let names = names_of_all (partial code.instrs place (reverse values)) in
     let each : All (Reads f g) names =
-    each_known f g names (all_first (Same f g) (derived_names (read f.reads) names) [] (λ y p. absurd (false≢true p)) (each_same f g (first_of_each [] (derived_names (read f.reads) names)) h)) in
+    each_known (read f.reads) (read g.reads) names (all_first (Same f g) (derived_names (read f.reads) names) [] (λ y p. absurd (false≢true p)) (each_same f g (first_of_each [] (derived_names (read f.reads) names)) h)) in
     code_same code f g a fit (length code.instrs) place (reverse values) (omega arith) placed
     (subst (All (Reads f g)) (names_at code.body code.instrs place (reverse values) fit placed) each)

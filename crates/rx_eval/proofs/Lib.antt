@@ -14,3 +14,5 @@ pub mod Soundness
 pub mod BuiltinLemmas
 pub mod FillLemmas
 pub mod LawLemmas
+pub mod NotingLemmas
+pub mod PauseLemmas

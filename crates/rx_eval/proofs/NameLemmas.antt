@@ -17,7 +17,7 @@ use Rattle.rx_eval.specs.declared.code.Form.TheVariants as form
 use Rattle.rx_eval.specs.declared.code.Instr.{Instr}
 use Rattle.rx_eval.specs.declared.code.Instr.TheVariants as i
 use Rattle.rx_eval.specs.declared.code.Sending.{Sending}
-use Rattle.rx_eval.specs.declared.facts.Body.{Body}
+use Rattle.rx_eval.specs.Bodies.{Body}
 use Rattle.rx_eval.specs.Calling.{wants_strings}
 use Rattle.rx_eval.specs.Evaluation.{behind, before, sending}
 use Rattle.rx_eval.specs.Names.{all_terms, all_args, all_parts, class_names, names_level, names_part, names_of, names_of_all, names_in, names_read, with_tail}

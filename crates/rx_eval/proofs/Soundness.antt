@@ -7,7 +7,7 @@ use Rattle.rx_eval.specs.declared.code.Callee.TheVariants.{Label, Builtin, Routi
 use Rattle.rx_eval.specs.declared.code.Calling.{Calling}
 use Rattle.rx_eval.specs.declared.code.Instr.{Instr}
 use Rattle.rx_eval.specs.declared.code.Instr.TheVariants as i
-use Rattle.rx_eval.specs.declared.facts.Body.{Body}
+use Rattle.rx_eval.specs.Bodies.{Body}
 use Rattle.rx_eval.specs.Calling.{callee, wants_strings}
 use Rattle.rx_eval.specs.Places.{fits, knows_call, made_by, marks_of, runs, takes}
 use Rattle.rx_eval.specs.Sound.{IsSoundCallee, IsSoundInstr}

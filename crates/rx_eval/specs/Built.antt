@@ -6,7 +6,7 @@ use Rattle.rx_eval.specs.declared.code.Callee.{Callee}
 use Rattle.rx_eval.specs.declared.code.Calling.{Calling}
 use Rattle.rx_eval.specs.declared.code.Class.{Class}
 use Rattle.rx_eval.specs.declared.code.Sending.{Sending}
-use Rattle.rx_eval.specs.declared.facts.Body.{Body}
+use Rattle.rx_eval.specs.Bodies.{Body}
 use Rattle.rx_eval.specs.Places.{class_name, knows_class, knows_send, part_of}
 use Rattle.rx_eval.specs.Whole.{given}
 

@@ -16,7 +16,7 @@ use Rattle.rx_eval.specs.declared.call.Sent.{Sent}
 use Rattle.rx_eval.specs.declared.call.Sent.TheVariants as s
 use Rattle.rx_eval.specs.declared.code.Callee.{Callee}
 use Rattle.rx_eval.specs.declared.code.Callee.TheVariants as callees
-use Rattle.rx_eval.specs.declared.facts.Body.{Body}
+use Rattle.rx_eval.specs.Bodies.{Body}
 use Rattle.rx_eval.specs.declared.facts.Facts.{Facts}
 
 -- ---- messages

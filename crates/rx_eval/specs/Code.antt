@@ -2,7 +2,7 @@
 use Rattle.std.specs.Prelude.{ℕ, List, [], reverse}
 use Rattle.rx_tree.specs.declared.value.Value.{Value}
 use Rattle.rx_eval.specs.declared.code.Instr.{Instr}
-use Rattle.rx_eval.specs.declared.facts.Body.{Body}
+use Rattle.rx_eval.specs.Bodies.{Body}
 use Rattle.rx_eval.specs.declared.facts.Facts.{Facts}
 use Rattle.rx_eval.specs.Evaluation.{AllFound, evaluate_all}
 use Rattle.rx_eval.specs.Places.{partial}

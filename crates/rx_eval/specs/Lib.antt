@@ -1,3 +1,4 @@
+pub mod Bodies
 pub mod Values
 pub mod Reading
 pub mod Naming
@@ -16,3 +17,6 @@ pub mod Computed
 pub mod Answers
 pub mod Filling
 pub mod Laws
+pub mod Pauses
+pub mod Reaching
+pub mod Noting

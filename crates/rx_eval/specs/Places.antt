@@ -15,7 +15,7 @@ use Rattle.rx_eval.specs.declared.code.Calling.{Calling}
 use Rattle.rx_eval.specs.declared.code.Sending.{Sending}
 use Rattle.rx_eval.specs.declared.code.Instr.{Instr}
 use Rattle.rx_eval.specs.declared.code.Instr.TheVariants as i
-use Rattle.rx_eval.specs.declared.facts.Body.{Body}
+use Rattle.rx_eval.specs.Bodies.{Body}
 use Rattle.rx_eval.specs.Calling.{callee, message_of, wants_strings}
 use Rattle.rx_eval.specs.Evaluation.{Done, wanted, behind, before, sending}
 use Rattle.rx_eval.specs.Reading.{object_named}

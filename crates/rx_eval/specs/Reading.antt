@@ -11,7 +11,7 @@ use Rattle.rx_tree.specs.declared.name.Part.TheVariants.{Fixed, Of}
 use Rattle.rx_tree.specs.declared.value.Value.{Value}
 use Rattle.rx_tree.specs.declared.value.Value.TheVariants.{Str, Ref}
 use Rattle.rx_vars.specs.Tables.{look_up}
-use Rattle.rx_eval.specs.declared.facts.Body.{Body}
+use Rattle.rx_eval.specs.Bodies.{Body}
 use Rattle.rx_eval.specs.declared.facts.Facts.{Facts}
 use Rattle.rx_eval.specs.declared.naming.Named.{Named}
 use Rattle.rx_eval.specs.declared.naming.Named.TheVariants.{Known, Missing, TooLong}

@@ -8,7 +8,7 @@ use Rattle.rx_tree.specs.declared.expr.Expr.TheOpen.{Expr-F, SendPart-F}
 use Rattle.rx_tree.specs.declared.expr.Expr.TheFolds.{fold-Expr}
 use Rattle.rx_tree.specs.declared.expr.SendPart.{SendPart}
 use Rattle.rx_eval.specs.declared.code.Instr.{Instr}
-use Rattle.rx_eval.specs.declared.facts.Body.{Body}
+use Rattle.rx_eval.specs.Bodies.{Body}
 use Rattle.rx_eval.specs.Places.{Trees, made_by, fits}
 
 abbrev pub all_args : List (Option Bool) → Bool

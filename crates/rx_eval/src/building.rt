@@ -30,7 +30,7 @@ fn shape_of(alloc: Global, args: &[Option<Expr>]) -> Result<Items<bool>, OutOfMe
 pub(crate) fn callee(body: &Body, name: &Text, is_string: bool) -> Callee
     ensures { result ≡ calls.callee body.now name.now is_string }
 {
-    if !is_string && body.labels.get(name.bytes()).is_some() {
+    if !is_string && body.labels().get(name.bytes()).is_some() {
         Callee::Label
     } else if is_builtin(name.bytes()) {
         Callee::Builtin
@@ -68,7 +68,7 @@ pub(crate) fn wants_strings(callee: Callee) -> bool
 pub(crate) fn object_named(body: &Body, name: &Text) -> Option<u32>
     ensures { result ≡ object_named body.now name.now }
 {
-    body.objects.get(name.bytes()).copied()
+    body.objects().get(name.bytes()).copied()
 }
 
 fn class_of(body: &Body, above: &Option<Text>) -> Result<Option<Class>, OutOfMemory>

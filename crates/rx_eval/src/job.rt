@@ -131,7 +131,7 @@ pub fn put_answer(
 }
 
 // Equal values.
-fn share_all(alloc: Global, values: &[Value]) -> Result<Vec<Value>, OutOfMemory>
+pub(crate) fn share_all(alloc: Global, values: &[Value]) -> Result<Vec<Value>, OutOfMemory>
     ensures { IfOk result (λ shared. shared.items ≡ values.now) }
 {
     let mut shared = Vec::with_capacity(alloc, values.len())?;

@@ -83,7 +83,8 @@ impl Postfix {
     }
     /// The names that the code reads. The number of one is its place here.
     pub fn names(&self) -> &[Name]
-        ensures { Lists result.now self.now.instrs }
+        ensures listed { Lists result.now self.now.instrs }
+        ensures whole { fits self.now.body self.now.instrs [] ≡ true }
     {
         self.code.names()
     }

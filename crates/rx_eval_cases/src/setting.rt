@@ -9,6 +9,7 @@ use rx_tree::{Derived, Name, OutOfMemory, Part, Shared, Text, Value};
 use rx_vars::Table;
 use sqlite_items::Items;
 use std::alloc::Global;
+use std::sync::Arc;
 
 /// What the lines before set.
 pub struct Settings {
@@ -111,7 +112,7 @@ impl Settings {
         for (name, object) in &self.objects {
             objects.insert(name.bytes(), *object)?;
         }
-        Ok(Body { labels, objects })
+        Ok(Body::new(labels, Arc::new(alloc, objects)?))
     }
 
     // The tail of a compound name, with the values of the variables in it.

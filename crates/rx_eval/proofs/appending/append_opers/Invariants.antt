@@ -1,7 +1,7 @@
 use Rattle.std.proofs.Common.{◌∷◌, [], false, ◌≤◌, length, drop}
 use Rattle.rx_tree.specs.declared.expr.Expr.{Expr}
 use Rattle.rx_tree.specs.declared.expr.Expr.TheVariants as e
-use Rattle.rx_eval.specs.declared.facts.Body.{Body}
+use Rattle.rx_eval.specs.Bodies.{Body}
 use Rattle.rx_eval.specs.Places.{Trees}
 use Rattle.rx_eval.specs.Whole.{IsBuilt}
 use Rattle.rx_eval.proofs.appending.append_opers.Given as goal
