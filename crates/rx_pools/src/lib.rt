@@ -7,5 +7,5 @@
 
 mod pools;
 
-pub use pools::{Pool, Pools, pools_cross};
+pub use pools::{Pool, Pools, pools_cross, watched_name};
 pub use rx_tree::{Derived, OutOfMemory, Scope};

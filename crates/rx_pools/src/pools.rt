@@ -1,5 +1,5 @@
 // The pools of objects' variables.
-ghost use Rattle.std.specs.Prelude.{◌≡◌, ◌+◌, ◌<◌, ◌^◌, ◌++◌, [], ◌∷◌, length, slice_get, slice_index, slice_set, IfOk, IfSome, OnErr, OnOk, Some, None};
+ghost use Rattle.std.specs.Prelude.{◌≡◌, ◌+◌, ◌<◌, ◌^◌, ◌++◌, [], ◌∷◌, length, slice_get, slice_index, slice_set, IfOk, IfSome, IsTrue, OnErr, OnOk, Some, None};
 ghost use Rattle.std.specs.Option.{option_copied, option_map};
 ghost use Rattle.rx_vars.specs.Names.{found};
 ghost use Rattle.rx_pools.specs.Pools.{IsGiven, cell_in, changes_of, no_pools, owner_of, pool_number, rows_in, touched, watched_name, with_cell, with_numbered_cell, with_pool, with_rows_changed, with_value};
@@ -55,19 +55,22 @@ impl Model for Pools {
 }
 
 /// The name under which a variable is watched: its own, or a compound's stem.
-fn watched_name(name: &Derived) -> &[u8]
+pub fn watched_name(name: &Derived) -> &Text
     ensures { result.now ≡ watched_name name.now }
 {
     match name {
-        Derived::Simple(name) => name.bytes(),
-        Derived::Stem(stem) => stem.bytes(),
-        Derived::Compound(stem, _) => stem.bytes(),
+        Derived::Simple(name) => name,
+        Derived::Stem(stem) => stem,
+        Derived::Compound(stem, _) => stem,
     }
 }
 
 impl Pools {
     /// The most pools, so that the number of each is a `u32`.
     pub const MOST: usize = 4_294_967_294;
+
+    // A cell that was changed less often may be changed once more.
+    const MOST_CHANGES: u64 = 9_223_372_036_854_775_808;
 
     /// There is no pool, and no cell.
     pub fn new(alloc: Global) -> Pools
@@ -217,7 +220,7 @@ impl Pools {
         ensures ok { OnOk result (self.new ≡ with_value self.old number name.now value) }
         ensures err { OnErr result (self.new ≡ self.old) }
     {
-        let cell = self.cell_in(number, watched_name(name)).unwrap();
+        let cell = self.cell_in(number, watched_name(name).bytes()).unwrap();
         self.change_rows(number, name, value)?;
         self.touch(cell);
         Ok(cell)
@@ -243,6 +246,16 @@ impl Pools {
         ensures err { OnErr result (self.new ≡ self.old) }
     {
         self.change(number, name, None)
+    }
+
+    /// Whether the cell of a name in a pool was given out, and was changed less than 2 ^ 63 times.
+    pub fn is_given(&self, number: u32, name: &Derived) -> bool
+        ensures { IsTrue result → IsGiven self.now number (watched_name name.now) }
+    {
+        match self.cell_in(number, watched_name(name).bytes()) {
+            Some(cell) => self.changes(cell) < Self::MOST_CHANGES,
+            None => false,
+        }
     }
 
     /// How often a cell was changed.
