@@ -10,7 +10,7 @@ use rx_clause_tree::{Clause, ClauseKind, Simple};
 use rx_tree::{OutOfMemory, Text};
 use rx_vars::Table;
 
-// The name of a clause that is a label.
+/// The name of a clause that is a label.
 pub fn label(clause: &Clause) -> Option<&Text>
     ensures { option_copied result ≡ label_of (rule clause.now) }
 {

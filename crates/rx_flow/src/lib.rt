@@ -18,4 +18,5 @@ mod names;
 pub use code::{Code, Op};
 pub use flat::{Flat, flatten_body};
 pub use found::{Found, FoundLoop, Turn};
+pub use labels::label;
 pub use rx_tree::OutOfMemory;
