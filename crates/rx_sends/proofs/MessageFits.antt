@@ -145,7 +145,7 @@ outcome-fits classes objects message come (Places places) is fits = fits
 outcome-fits classes objects message come (Line items) is fits = fits
 outcome-fits classes objects message come (Names entries) is fits = fits
 
-completed-fits : (classes : List ClassDef) (objects : List Object) (message : Option ℕ) (come : Came) → Fits classes objects
+pub completed-fits : (classes : List ClassDef) (objects : List Object) (message : Option ℕ) (come : Came) → Fits classes objects
     → Fits classes (completed objects message come)
 completed-fits classes objects None come fits = fits
 completed-fits classes objects (Some message) come fits = outcome-fits classes objects message come (contents_at objects message) refl fits
