@@ -51,7 +51,7 @@ pub record Frame (Todo : Type 0) : Type 0 where
 abbrev pub beginning : Position
 beginning = record {
   place = 0;
-  operands = record { place = 0; values = []; call = NoCall };
+  operands = record { rest = None; call = NoCall };
   loops = [];
   marks = NoGuard;
 }

@@ -2,6 +2,7 @@
 ghost use Rattle.std.specs.Prelude.{◌≡◌};
 ghost use Rattle.rx_frames.specs.Frames.{beginning, call_with};
 
+use rx_eval::Paused;
 use rx_tree::{Awaited, Value};
 use sqlite_items::Items;
 use std::alloc::Global;
@@ -40,21 +41,15 @@ impl CallState {
 
 /// How far the expressions of a clause are evaluated.
 pub struct Operands {
-    /// The place in the code of the expressions.
-    pub place: u32,
-    /// The operand values that stand there, in the order in which they were evaluated.
-    pub values: Items<Value>,
-    /// The call that the place stands behind.
+    /// The evaluation that stands at a call, where one was met.
+    pub rest: Option<Paused>,
+    /// The call.
     pub call: CallState,
 }
 
 impl Drop for Operands {
     fn drop(self) {
-        let Operands {
-            place: _,
-            values: _,
-            call: _,
-        } = self;
+        let Operands { rest: _, call: _ } = self;
     }
 }
 
@@ -155,8 +150,7 @@ impl Position {
         Position {
             place: 0,
             operands: Operands {
-                place: 0,
-                values: Items::new(alloc),
+                rest: None,
                 call: CallState::NoCall,
             },
             loops: Items::new(alloc),

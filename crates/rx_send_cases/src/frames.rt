@@ -27,14 +27,9 @@ pub fn begin(stacks: &mut Stacks, count: u32) -> Result<(), OutOfMemory> {
     Ok(())
 }
 
-// What has become of the call that a frame has met. It has no operand values.
-fn set_call(alloc: Global, frame: &mut Frame, call: CallState) {
-    let place = frame.operands().place;
-    frame.set_operands(Operands {
-        place,
-        values: Items::new(alloc),
-        call,
-    });
+// What has become of the call that a frame has met. Nothing is left of its expressions.
+fn set_call(frame: &mut Frame, call: CallState) {
+    frame.set_operands(Operands { rest: None, call });
 }
 
 /// Pushes a frame of body 0 that awaits anything, where the activity was begun. Whether there was
@@ -50,7 +45,7 @@ pub fn push(
     }
     let arguments = Shared::new(alloc, Items::new(alloc))?;
     let mut frame = Frame::new(alloc, kind, 0, None, arguments);
-    set_call(alloc, &mut frame, CallState::Awaiting(Awaited::Anything));
+    set_call(&mut frame, CallState::Awaiting(Awaited::Anything));
     match stacks.push(a, frame) {
         Ok(()) => Ok(true),
         Err(PushRefused::Deep) => Ok(false),
@@ -123,7 +118,7 @@ pub fn await_next(alloc: Global, stacks: &mut Stacks, a: u32, awaits: bool)
     }
     if let Some(frame) = stacks.top_mut(a) {
         let awaited = awaited_next(&frame.operands().call);
-        set_call(alloc, frame, CallState::Awaiting(awaited));
+        set_call(frame, CallState::Awaiting(awaited));
     }
 }
 
@@ -201,7 +196,7 @@ pub fn change_top(
     match line.bytes(0) {
         b"digits" => frame.set_digits(line.number(2).clamp(1, 18) as u8),
         b"trap" => frame.set_traps(traps_of(alloc, line)?),
-        _ => set_call(alloc, frame, call_of(line.bytes(2))),
+        _ => set_call(frame, call_of(line.bytes(2))),
     }
     Ok(true)
 }

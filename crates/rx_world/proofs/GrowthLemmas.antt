@@ -284,7 +284,7 @@ settle-grows t one (AllCall pending trees) =
     then_grows t.world next _ (same t.world next refl refl refl refl refl refl refl) (calls-grow next t.number (line t) pending.sent)
 
 starts-grow : (t : Turn) (one : OneClause) (number : Option ℕ) → StepGrows t.world (starts t one number)
-starts-grow t one None = settle-grows t one (comes_to t.world t.number t.frame (trees_of t.frame one))
+starts-grow t one None = settle-grows t one (comes_to t.world t.number t.frame (trees_of t.frame.arguments one))
 starts-grow t one (Some number) = raised-grows t.world t.number number (line t)
 
 resumes-grow : (t : Turn) (one : OneClause) (by : Resumed) → StepGrows t.world (resumes t one by)

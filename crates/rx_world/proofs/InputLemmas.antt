@@ -272,7 +272,7 @@ stretch-keeps more last t one trees unknown = settle-keeps more last t one (come
 
 starts-keep : (more : List (List ℕ)) (last : Bool) (t : Turn) (one : OneClause) (number : Option ℕ) → t.world.ended ≡ false
     → Keeps more last (starts t one number) (starts (turn_with more last t) one number)
-starts-keep more last t one None unknown = stretch-keeps more last t one (trees_of t.frame one) unknown
+starts-keep more last t one None unknown = stretch-keeps more last t one (trees_of t.frame.arguments one) unknown
 starts-keep more last t one (Some number) unknown = λ done. ap w.Done (raised-with more last t.world t.number number (line t))
 
 resumes-keep : (more : List (List ℕ)) (last : Bool) (t : Turn) (one : OneClause) (by : Resumed) → t.world.ended ≡ false

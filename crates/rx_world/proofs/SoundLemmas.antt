@@ -366,7 +366,7 @@ settle-keeps t one (AllCall pending trees) is =
     keeps-then t.world.activities next.activities _ (todo-keeps t _ is) (calls-keep next t.number (line t) pending.sent (todo-quiet t _ is))
 
 starts-keep : (t : Turn) (one : OneClause) (number : Option ℕ) → IsTurn t → StepKeeps t.world.activities (starts t one number)
-starts-keep t one None is = settle-keeps t one (comes_to t.world t.number t.frame (trees_of t.frame one)) is
+starts-keep t one None is = settle-keeps t one (comes_to t.world t.number t.frame (trees_of t.frame.arguments one)) is
 starts-keep t one (Some number) is = raised-keeps t.world t.number number (line t)
 
 resumes-keep : (t : Turn) (one : OneClause) (by : Resumed) → IsTurn t → StepKeeps t.world.activities (resumes t one by)

@@ -1,31 +1,18 @@
 -- What a clause goes on with once the answer of its call has come.
-use Rattle.std.specs.Prelude.{ℕ, Bool, true, false, if◌then◌else◌, [], ◌∷◌, Option, None, Some}
+use Rattle.std.specs.Prelude.{ℕ, if◌then◌else◌, Option, None, Some}
 use Rattle.rx_tree.specs.declared.activity.Awaited.{Awaited}
 use Rattle.rx_tree.specs.declared.activity.Awaited.TheVariants.{Dropped, Anything, Message, Function, String}
-use Rattle.rx_tree.specs.declared.expr.Expr.{Expr}
-use Rattle.rx_tree.specs.declared.expr.Expr.TheOpen.{Expr-F}
-use Rattle.rx_tree.specs.declared.expr.Expr.TheViews.{out-Expr}
-use Rattle.rx_tree.specs.declared.expr.SendPart.{SendPart}
 use Rattle.rx_tree.specs.declared.value.Value.{Value}
 use Rattle.rx_tree.specs.declared.value.Value.TheVariants.{Str, Ref}
 use Rattle.rx_clause_tree.specs.declared.simple.Simple.{Simple}
 use Rattle.rx_clause_tree.specs.declared.simple.Simple.TheVariants as simple
 use Rattle.rx_native.specs.Outcomes.{incorrect_method_call}
 use Rattle.rx_eval.specs.Filling.{filled_all}
+use Rattle.rx_eval.specs.Pauses.{is_bare}
 use Rattle.rx_eval.specs.Places.{Trees}
 use Rattle.rx_world.specs.Refusals.{no_data_returned, no_value_returned}
 
 -- ---- how it is awaited
-
-abbrev pub is_hole : Expr-F Expr SendPart → Bool
-is_hole Expr-F.Hole = true
-is_hole _ = false
-
--- nothing but the answer is left of an expression of which no string is wanted
-abbrev pub is_bare : Trees → Bool
-is_bare [] = false
-is_bare (tree ∷ []) = if tree.1 then false else is_hole (out-Expr tree.0)
-is_bare (tree ∷ (next ∷ trees)) = false
 
 -- A message clause does without the value of its last message.
 abbrev pub awaited_by : Simple → Awaited → Trees → Awaited

@@ -16,17 +16,17 @@ use Rattle.rx_world.specs.Variables.{drops, exposes_own, sets, sets_result}
 use Rattle.rx_world.specs.Arguments.{defaults, refuses, uses}
 use Rattle.rx_world.specs.Templates.{parses, trees_from}
 
--- The expressions of a clause, in the order in which they are evaluated, each with whether a string is wanted of it.
-abbrev pub trees_of : Frame Todo → Simple → Trees
-trees_of frame (Say given) = given_tree true given
-trees_of frame (Assign name expr) = (expr, false) ∷ []
-trees_of frame (Message expr) = (expr, false) ∷ []
-trees_of frame (Return given) = given_tree false given
-trees_of frame (UseArg strict parameters) = defaults parameters frame.arguments
-trees_of frame (Parse parse) = trees_from parse.from
-trees_of frame (Push given) = given_tree true given
-trees_of frame (Queue given) = given_tree true given
-trees_of frame _ = []
+-- The expressions of a clause in a frame with these arguments, in the order in which they are evaluated, each with whether a string is wanted of it.
+abbrev pub trees_of : List (Option Value) → Simple → Trees
+trees_of args (Say given) = given_tree true given
+trees_of args (Assign name expr) = (expr, false) ∷ []
+trees_of args (Message expr) = (expr, false) ∷ []
+trees_of args (Return given) = given_tree false given
+trees_of args (UseArg strict parameters) = defaults parameters args
+trees_of args (Parse parse) = trees_from parse.from
+trees_of args (Push given) = given_tree true given
+trees_of args (Queue given) = given_tree true given
+trees_of args _ = []
 
 -- the error that a clause raises before it evaluates anything
 abbrev pub refused : Frame Todo → Simple → Option ℕ

@@ -11,7 +11,7 @@ use Rattle.rx_names.specs.Homes.{value, variables_at}
 use Rattle.rx_flow.specs.Rules.{rule}
 use Rattle.rx_flow.specs.Todo.{label_of}
 use Rattle.rx_flow.specs.Labels.{with_label}
-use Rattle.rx_eval.specs.declared.facts.Body.{Body}
+use Rattle.rx_eval.specs.Bodies.{Body}
 use Rattle.rx_eval.specs.declared.facts.Facts.{Facts}
 use Rattle.rx_eval.specs.Evaluation.{AllFound, evaluate_all}
 use Rattle.rx_eval.specs.Names.{reads}

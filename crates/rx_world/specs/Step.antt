@@ -37,7 +37,7 @@ stretch t simple trees = settle t simple (comes_to t.world t.number t.frame tree
 
 -- a clause is begun
 abbrev pub starts : Turn → Simple → Option ℕ → Stepped
-starts t simple None = stretch t simple (trees_of t.frame simple)
+starts t simple None = stretch t simple (trees_of t.frame.arguments simple)
 starts t simple (Some number) = raises t number
 
 -- a clause goes on behind its call
