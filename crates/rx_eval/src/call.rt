@@ -1,4 +1,6 @@
 // Calls.
+ghost use Rattle.std.specs.Prelude.{◌≡◌};
+
 use rx_tree::{Awaited, Text, Value};
 use sqlite_items::Items;
 
@@ -25,5 +27,15 @@ impl Drop for Pending {
             sent: _,
             awaited: _,
         } = self;
+    }
+}
+
+impl Pending {
+    /// What is sent, where how the answer is awaited isn't wanted any more.
+    pub fn into_sent(self) -> Sent
+        ensures { result ≡ self.sent }
+    {
+        let Pending { sent, awaited: _ } = self;
+        sent
     }
 }
