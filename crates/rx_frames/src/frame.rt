@@ -1,5 +1,6 @@
 // Frames.
-ghost use Rattle.std.specs.Prelude.{◌≡◌, ◌≤◌, IsTrue, OnErr, OnOk};
+ghost use Rattle.std.specs.Prelude.{◌≡◌, ◌≤◌, true, false, IsTrue, OnErr, OnOk};
+ghost use Rattle.std.specs.Bool.{OnFalse};
 ghost use Rattle.std.specs.Option.{option_copied};
 ghost use Rattle.std.specs.Borrow.{sem};
 ghost use Rattle.rx_frames.specs.Frames.{IsShared, asked_by, beginning, frame_with, with_answer, with_value};
@@ -15,7 +16,8 @@ use std::marker::Model;
 /// What an activity is in the middle of: a main program, a method, a routine, or a label's clauses that were called.
 /// Contracts see it as a record.
 ///
-/// Each part has a reader and a setter. Whether it asks for its pool is told by `Stacks::look` alone.
+/// Each part has a reader and a setter. Whether it asks for its pool is told by `Stacks::look`, and by `reserve`, after which it
+/// doesn't any more.
 ///
 /// Beside its parts stands whether it is known to share all variables of its caller: it is so for an internal routine until its
 /// variables are replaced, or lent to be changed.
@@ -347,6 +349,20 @@ impl Frame {
         ensures { self.new ≡ record self.old { asks = asks } }
     {
         self.asks = asks;
+    }
+
+    /// Where it asks for its pool, it reserves it. Whether it asked.
+    pub fn reserve(&mut self) -> bool
+        ensures asked { result ≡ self.old.asks }
+        ensures reserved { IsTrue result → self.new ≡ record self.old { asks = false; reserves = true } }
+        ensures same { OnFalse result (self.new ≡ self.old) }
+    {
+        if !self.asks {
+            return false;
+        }
+        self.asks = false;
+        self.reserves = true;
+        true
     }
 
     /// Whether it has replied.
