@@ -1,0 +1,4 @@
+pub mod DefaultLemmas
+pub mod KeptLemmas
+pub mod ProgramLemmas
+pub mod Sending
