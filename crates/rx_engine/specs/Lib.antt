@@ -1,0 +1,15 @@
+pub mod Views
+pub mod Readings
+pub mod States
+pub mod Unwinding
+pub mod Endings
+pub mod Turning
+pub mod Noted
+pub mod First
+pub mod Steps
+pub mod Stepping
+pub mod Exposing
+pub mod Parsing
+pub mod Picking
+pub mod Waiting
+pub mod Given
