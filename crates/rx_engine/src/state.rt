@@ -58,3 +58,26 @@ impl Drop for State {
         } = self;
     }
 }
+
+impl State {
+    /// What was said, where nothing else of the run is wanted any more.
+    pub fn into_output(self) -> Vec<u8>
+        ensures { result ≡ self.output }
+    {
+        let State {
+            program: _,
+            argument: _,
+            budget: _,
+            parts: _,
+            queue: _,
+            lines: _,
+            ended: _,
+            output,
+            notes: _,
+            steps: _,
+            main: _,
+            closed: _,
+        } = self;
+        output
+    }
+}
