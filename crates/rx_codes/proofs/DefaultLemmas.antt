@@ -5,8 +5,8 @@ use Rattle.rx_tree.specs.declared.expr.Expr.{Expr}
 use Rattle.rx_tree.specs.declared.value.Value.{Value}
 use Rattle.rx_clause_tree.specs.declared.instruction.Parameter.{Parameter}
 use Rattle.rx_eval.specs.Places.{Trees}
-use Rattle.rx_world.specs.Arguments.{argument, default_if, defaults}
-use Rattle.rx_world.specs.Values.{given_tree}
+use Rattle.rx_machine.specs.Arguments.{argument, default_if, defaults}
+use Rattle.rx_machine.specs.Values.{given_tree}
 
 -- the default of a parameter that has no argument, and of one that has
 

@@ -7,7 +7,7 @@ use Rattle.rx_clause_tree.specs.declared.clause.Clause.{Clause}
 use Rattle.rx_eval.specs.Bodies.{Body}
 use Rattle.rx_eval.specs.Code.{Code}
 use Rattle.rx_eval.specs.Places.{Trees}
-use Rattle.rx_world.specs.Scenes.{labels_from}
+use Rattle.rx_machine.specs.Scenes.{labels_from}
 use Rattle.rx_codes.specs.Codes.{AreCodes, Coded, fixed_for, seen, wanted, with_objects}
 
 -- the code of a clause is that of its number

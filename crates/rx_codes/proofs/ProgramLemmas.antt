@@ -4,7 +4,7 @@ use Rattle.std.proofs.lemmas.List.{length-map}
 use Rattle.rx_tree.specs.declared.class.ClassDef.{ClassDef}
 use Rattle.rx_clause_tree.specs.declared.clause.Body.{Body}
 use Rattle.rx_clause_tree.specs.declared.package.Package.{Package}
-use Rattle.rx_world.specs.Todo.{clauses_of}
+use Rattle.rx_machine.specs.Todo.{clauses_of}
 use Rattle.rx_codes.specs.Codes.{Coded, symbols_for, with_objects}
 use Rattle.rx_codes.specs.Programs.{IsProgram, body_in, coded_in, package_of}
 

@@ -14,8 +14,8 @@ use Rattle.rx_classes.specs.Natives.{native_names}
 use Rattle.rx_eval.specs.Bodies.{Body}
 use Rattle.rx_eval.specs.Code.{Code}
 use Rattle.rx_eval.specs.Places.{Trees, trees_of}
-use Rattle.rx_world.specs.Clauses as clauses
-use Rattle.rx_world.specs.Scenes.{class_name, labels_from, symbols_from}
+use Rattle.rx_machine.specs.Clauses as clauses
+use Rattle.rx_machine.specs.Scenes.{class_name, labels_from, symbols_from}
 
 -- ---- symbols
 

@@ -3,7 +3,7 @@ use Rattle.std.specs.Prelude.{◌≡◌, ◌<◌, ◌^◌, ℕ, List, length, ma
 use Rattle.rx_tree.specs.declared.class.ClassDef.{ClassDef}
 use Rattle.rx_clause_tree.specs.declared.clause.Body.{Body}
 use Rattle.rx_clause_tree.specs.declared.package.Package.{Package}
-use Rattle.rx_world.specs.Scenes.{symbols_of}
+use Rattle.rx_machine.specs.Scenes.{symbols_of}
 use Rattle.rx_codes.specs.Codes.{Coded}
 
 abbrev pub body_in : Coded → Body

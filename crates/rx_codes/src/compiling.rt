@@ -6,10 +6,10 @@ ghost use Rattle.std.specs.Option.{option_copied};
 ghost use Rattle.rx_tree.specs.declared.expr.Expr.TheVariants.{Name as Variable};
 ghost use Rattle.rx_eval.specs.Places.{trees_of};
 ghost use Rattle.rx_flow.specs.Rules.{rule};
-ghost use Rattle.rx_world.specs.Arguments.{argument, default_if, defaults};
-ghost use Rattle.rx_world.specs.Clauses as spec;
-ghost use Rattle.rx_world.specs.Templates.{trees_from};
-ghost use Rattle.rx_world.specs.Values.{given_tree};
+ghost use Rattle.rx_machine.specs.Arguments.{argument, default_if, defaults};
+ghost use Rattle.rx_machine.specs.Clauses as spec;
+ghost use Rattle.rx_machine.specs.Templates.{trees_from};
+ghost use Rattle.rx_machine.specs.Values.{given_tree};
 ghost use Rattle.rx_codes.specs.Codes.{done_by, trees_in};
 
 use rx_clause_tree::{Clause, ClauseKind, Parameter, ParseFrom, Simple};

@@ -1,7 +1,7 @@
 // What is fixed for the bodies of a program: labels, and what environment symbols name.
 ghost use Rattle.std.specs.Prelude.{◌≡◌, ◌+◌, [], ◌∷◌, map, IfOk, OnOk};
 ghost use Rattle.rx_vars.specs.Tables.{with_new};
-ghost use Rattle.rx_world.specs.Scenes.{class_name, labels_from, symbols_from};
+ghost use Rattle.rx_machine.specs.Scenes.{class_name, labels_from, symbols_from};
 ghost use Rattle.rx_codes.specs.Codes.{first_names, symbols_for};
 
 use rx_clause_tree::Clause;

@@ -6,9 +6,9 @@ ghost use Rattle.rx_clause_tree.specs.declared.simple.Simple.{Simple};
 ghost use Rattle.rx_flow.specs.Kept.{all_kept};
 ghost use Rattle.rx_flow.specs.Rules.{Does, rule};
 ghost use Rattle.rx_eval.specs.Places.{trees_of};
-ghost use Rattle.rx_world.specs.Clauses as clauses;
-ghost use Rattle.rx_world.specs.Scenes.{body_of};
-ghost use Rattle.rx_world.specs.Todo.{clauses_in};
+ghost use Rattle.rx_machine.specs.Clauses as clauses;
+ghost use Rattle.rx_machine.specs.Scenes.{body_of};
+ghost use Rattle.rx_machine.specs.Todo.{clauses_in};
 
 use crate::package::CodedPackage;
 use rx_clause_tree::Package;

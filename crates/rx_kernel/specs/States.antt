@@ -1,23 +1,30 @@
--- The world of a run.
-use Rattle.std.specs.Prelude.{◌≡◌, ◌<◌, ℕ, ◌-◌, List, [], length, slice_set}
-use Rattle.rx_tree.specs.World.{World, Activity, Live, Nothing}
+-- The world for which a state of the code stands.
+use Rattle.rx_machine.specs.World.{World, Ending, NoValue, Given, Failed}
+use Rattle.rx_kernel.specs.declared.main_end.MainEnd.{MainEnd}
+use Rattle.rx_kernel.specs.declared.main_end.MainEnd.TheVariants as main
 use Rattle.rx_kernel.specs.declared.state.State.{State}
-use Rattle.rx_kernel.specs.Worlds.{world_with}
-use Rattle.rx_kernel.specs.Activities.{activities_of}
+use Rattle.rx_kernel.specs.Readings.{reading}
+use Rattle.rx_kernel.specs.Views.{activities_view}
 
+abbrev pub ending_of : MainEnd → Ending
+ending_of main.NoValue = NoValue
+ending_of (main.Given value) = Given value
+ending_of (main.Failed number) = Failed number
+
+-- its frames tell by clauses what is still to be done
 abbrev pub world_of : State → World
-world_of state = world_with state.program state.parts (activities_of state.program state.activities.items)
-
--- there are as many activities as were begun
-pub record IsCounted (state : State) : Type 0 where
-  pub begun : state.parts.begun ≡ length state.activities.items
-  pub few : length state.activities.items < 4294967296
-
--- an activity that runs, but for its frames
-abbrev pub running : Activity
-running = record { state = Live; frames = []; wait = Nothing }
-
--- a kind of step of activity a that was taken from its place, whatever stood there
-abbrev pub Turns : State → State → ℕ → (World → World) → Type 0
-Turns old new a row = (activities : List Activity) (left : Activity) → slice_set activities (a - 1) left ≡ activities_of old.program old.activities.items
-    → row (world_with old.program old.parts activities) ≡ world_of new
+world_of state = record {
+  program = state.program;
+  arg = state.argument;
+  budget = state.budget;
+  activities = activities_view (reading state.program) state.parts.stacks;
+  objects = state.parts.heap;
+  pools = state.parts.pools;
+  queue = state.queue;
+  rest = state.lines;
+  ended = state.ended;
+  output = state.output.items;
+  notes = state.notes.items;
+  steps = state.steps;
+  main = ending_of state.main;
+}

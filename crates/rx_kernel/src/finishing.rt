@@ -1,165 +1,172 @@
-// What a clause does at its end.
-ghost use Rattle.std.specs.Prelude.{◌≡◌, ◌++◌, ℕ, List, Option, IfOk, OnOk};
-ghost use Rattle.rx_tree.specs.declared.value.Value.{Value};
-ghost use Rattle.rx_tree.specs.declared.line.expr.Expr.{Expr};
-ghost use Rattle.rx_tree.specs.declared.line.expr.Term.{Term};
-ghost use Rattle.rx_kernel.specs.declared.frame.Caller.{Caller};
-ghost use Rattle.std.specs.Option.{option_map};
-ghost use Rattle.rx_tree.specs.declared.line.clause.Package.{Package};
-ghost use Rattle.rx_machine.specs.Pools.{place_of};
-ghost use Rattle.rx_machine.specs.Step.{line_said, finish};
-ghost use Rattle.rx_kernel.specs.Frames.{owner, frames_of};
-ghost use Rattle.rx_kernel.specs.Worlds.{Leads, begun_after};
-ghost use Rattle.rx_kernel.specs.Settling.{values_of};
-ghost use Rattle.rx_kernel.specs.Stores.{fresh};
+// What clauses do at their end.
+ghost use Rattle.std.specs.Prelude.{◌≡◌, codes, IfOk, OnOk};
+ghost use Rattle.rx_frames.specs.Activities.{IsBegun};
+ghost use Rattle.rx_frames.specs.declared.position.Position.{Position};
+ghost use Rattle.rx_frames.specs.Frames.{Frame as Recorded};
+ghost use Rattle.rx_machine.specs.Clauses.{finish};
+ghost use Rattle.rx_machine.specs.Turns.{Turn, goes_on};
+ghost use Rattle.rx_machine.specs.Values.{first_value};
+ghost use Rattle.rx_kernel.specs.States.{world_of};
+ghost use Rattle.rx_kernel.specs.Turning.{IsTop};
+ghost use Rattle.rx_kernel.specs.Stepping.{IsStepped, IsTurn, does_behind, exposes_in};
 
-use crate::assigning::{assign, assign_all, assign_name, expose_all};
-use crate::callers::Callers;
-use crate::frame::{Frame, Next, Own, Progress, Top};
-use crate::parts::Parts;
-use rx_store::Pools;
-use rx_tree::line::{ClauseKind, Name};
-use rx_tree::{OutOfMemory, Place, Value};
-use sqlite_items::Items;
-use std::alloc::{AllocError, Global};
+use crate::state::State;
+use crate::stepped::{Here, Stepped};
+use rx_clause_tree::Simple;
+use rx_frames::Own;
+use rx_tree::{Name, OutOfMemory, Shared, Text, Value};
+use std::alloc::Global;
 
-// Appends the line that SAY writes.
-fn say(output: &mut Vec<u8>, value: Option<Value>) -> Result<(), AllocError>
-    ensures { OnOk result (output.new.items ≡ output.old.items ++ line_said (values_of value)) }
-{
-    if let Some(Value::Str(text)) = &value {
-        output.extend_from_slice(text.bytes())?;
-    }
-    output.push(b'\n')?;
-    Ok(())
+/// What the frame on top has of its own, as its clauses read it at their end.
+pub(crate) struct Scene {
+    /// The object, the scope and the pool of a method's frame.
+    own: Option<Own>,
+    arguments: Shared<Option<Value>>,
 }
 
-// The place of the pool of an object and class, where it was made.
-fn place_of(pools: &Pools, own: Option<Own>) -> Place
-    ensures { result ≡ place_of pools.now (option_map owner own) }
-{
-    let Some(Own { object, class }) = own else {
-        return Place::Here;
-    };
-    match pools.number(object, class) {
-        Some(number) => Place::Pool(number),
-        None => Place::Here,
+impl Drop for Scene {
+    fn drop(self) {
+        let Scene {
+            own: _,
+            arguments: _,
+        } = self;
     }
 }
 
-// A frame that goes on with its next clause.
-fn go_on(frame: Frame) -> Next
-    ensures next { result ≡ Next.Top (record { frame = frame; progress = Progress.Fresh }) }
-    ensures begun { (begun : ℕ) → begun ≡ begun_after begun result }
+// An equal first value, if there is one, or want of memory.
+fn first_value(values: &[Value]) -> Result<Option<Value>, OutOfMemory>
+    ensures { IfOk result (λ first. first ≡ first_value values.now) }
 {
-    Next::Top(Top {
-        frame,
-        progress: Progress::Fresh,
-    })
+    match values {
+        [value, ..] => Ok(Some(value.share()?)),
+        [] => Ok(None),
+    }
 }
 
-impl Parts {
-    // SAY writes a line.
-    #[tactic(auto, unfolding(rx_machine::specs::Step::finish))]
-    fn finish_say(&mut self, frame: Frame, value: Option<Value>) -> Result<Next, OutOfMemory>
-        ensures finished { IfOk result (λ next. (program : Package) (a : ℕ) (callers : List Caller) (given : Option Expr)
-            → Leads program self.old self.new a callers next (λ w activity. finish w a activity (fresh program frame) (frames_of program callers) (ClauseKind.Say given) (values_of value))) }
-        ensures begun { IfOk result (λ next. self.new.begun ≡ begun_after self.old.begun next) }
-    {
-        say(&mut self.output, value)?;
-        Ok(go_on(frame))
-    }
+// The variable that has the value of a message clause.
+fn result_name(alloc: Global) -> Result<Name, OutOfMemory>
+    ensures { IfOk result (λ name. name ≡ Name.Simple (codes "RESULT")) }
+{
+    Ok(Name::Simple(Text::from_slice(alloc, b"RESULT")?))
+}
 
-    // An assignment gives a variable a value.
-    fn finish_assign(
+impl State {
+    // The names are exposed in the pool of the frame's object and scope, if it has one.
+    fn expose_own(
         &mut self,
         alloc: Global,
-        frame: Frame,
-        name: &Name,
-        value: Option<Value>,
-    ) -> Result<Next, OutOfMemory>
-        ensures finished { IfOk result (λ next. (program : Package) (a : ℕ) (callers : List Caller) (expr : Expr)
-            → Leads program self.old self.new a callers next (λ w activity. finish w a activity (fresh program frame) (frames_of program callers) (ClauseKind.Assign name.now expr) (values_of value))) }
-        ensures begun { IfOk result (λ next. self.new.begun ≡ begun_after self.old.begun next) }
+        a: u32,
+        line: u32,
+        own: Option<Own>,
+        names: &[Name],
+    ) -> Result<(), OutOfMemory>
+        requires begun { IsBegun self.old.parts.stacks a }
+        ensures { OnOk result (world_of self.new ≡ exposes_in (world_of self.old) a line own names.now) }
     {
-        let mut frame = frame;
-        assign_name(alloc, &mut self.pools, &mut frame, name, value)?;
-        Ok(go_on(frame))
+        match own {
+            Some(own) => self.exposes(alloc, a, line, own.pool, names),
+            None => Ok(()),
+        }
     }
 
-    // EXPOSE exposes names.
-    #[tactic(auto, unfolding(rx_machine::specs::Step::finish))]
-    fn finish_expose(
+    // What a clause does once its frame has gone on.
+    fn finish_behind(
         &mut self,
         alloc: Global,
-        frame: Frame,
-        names: &Items<Name>,
-    ) -> Result<Next, OutOfMemory>
-        ensures finished { IfOk result (λ next. (program : Package) (a : ℕ) (callers : List Caller) (value : Option Value)
-            → Leads program self.old self.new a callers next (λ w activity. finish w a activity (fresh program frame) (frames_of program callers) (ClauseKind.Expose names.now) (values_of value))) }
-        ensures begun { IfOk result (λ next. self.new.begun ≡ begun_after self.old.begun next) }
+        a: u32,
+        line: u32,
+        simple: &Simple,
+        scene: &Scene,
+        values: &[Value],
+    ) -> Result<(), OutOfMemory>
+        requires begun { IsBegun self.old.parts.stacks a }
+        ensures { OnOk result (world_of self.new
+            ≡ does_behind (world_of self.old) a line scene.now.own scene.now.arguments simple.now values.now) }
     {
-        let mut frame = frame;
-        let place = place_of(&self.pools, frame.own);
-        expose_all(alloc, &mut frame.exposures, names.as_slice(), place)?;
-        Ok(go_on(frame))
+        match simple {
+            Simple::Say(_) => self.say(values),
+            Simple::Push(_) => self.push_line(alloc, values),
+            Simple::Queue(_) => self.queue_line(alloc, values),
+            Simple::Assign(name, _) => {
+                let value = first_value(values)?;
+                self.sets(alloc, a, line, name, value)
+            }
+            Simple::Message(_) => {
+                let name = result_name(alloc)?;
+                let value = first_value(values)?;
+                self.sets(alloc, a, line, &name, value)
+            }
+            Simple::Drop(names) => self.drops(alloc, a, line, names.as_slice()),
+            Simple::Expose(names) => self.expose_own(alloc, a, line, scene.own, names.as_slice()),
+            Simple::UseArg(_, parameters) => {
+                let arguments = scene.arguments.as_slice();
+                self.uses(alloc, a, line, parameters.as_slice(), arguments, values)
+            }
+            _ => Ok(()),
+        }
     }
 
-    // USE ARG gives variables the arguments.
-    fn finish_use(
-        &mut self,
-        alloc: Global,
-        frame: Frame,
-        names: &Items<Name>,
-    ) -> Result<Next, OutOfMemory>
-        ensures finished { IfOk result (λ next. (program : Package) (a : ℕ) (callers : List Caller) (value : Option Value)
-            → Leads program self.old self.new a callers next (λ w activity. finish w a activity (fresh program frame) (frames_of program callers) (ClauseKind.UseArg names.now) (values_of value))) }
-        ensures begun { IfOk result (λ next. self.new.begun ≡ begun_after self.old.begun next) }
+    // What the frame on top has of its own, as its clauses read it at their end.
+    fn scene(&self, a: u32) -> Result<Scene, OutOfMemory>
+        requires begun { IsBegun self.now.parts.stacks a }
+        ensures own { (frame : Recorded Position) → IsTop self.now.parts.stacks a frame → IfOk result (λ scene. scene.own ≡ frame.own) }
+        ensures arguments { (frame : Recorded Position) → IsTop self.now.parts.stacks a frame
+            → IfOk result (λ scene. scene.arguments ≡ frame.arguments) }
     {
-        let mut frame = frame;
-        assign_all(alloc, &mut self.pools, &mut frame, names.as_slice())?;
-        Ok(go_on(frame))
+        let Some(frame) = self.parts.stacks.top(a) else {
+            // A clause is one of a frame.
+            return Err(OutOfMemory);
+        };
+        Ok(Scene {
+            own: frame.own(),
+            arguments: frame.arguments().share()?,
+        })
     }
 
-    // A message clause sets RESULT, or drops it.
-    fn finish_message(
+    // A clause ends that lets its frame go on.
+    fn finish_onward(
         &mut self,
         alloc: Global,
-        frame: Frame,
-        value: Option<Value>,
-    ) -> Result<Next, OutOfMemory>
-        ensures finished { IfOk result (λ next. (program : Package) (a : ℕ) (callers : List Caller) (term : Term)
-            → Leads program self.old self.new a callers next (λ w activity. finish w a activity (fresh program frame) (frames_of program callers) (ClauseKind.Message term) (values_of value))) }
-        ensures begun { IfOk result (λ next. self.new.begun ≡ begun_after self.old.begun next) }
+        a: u32,
+        here: Here,
+        simple: &Simple,
+        values: &[Value],
+    ) -> Result<(), OutOfMemory>
+        requires begun { IsBegun self.old.parts.stacks a }
+        requires turn { (t : Turn) × IsTurn self.old a here t }
+        ensures { (t : Turn) → IsTurn self.old a here t → OnOk result (world_of self.new
+            ≡ does_behind (goes_on t) a here.line t.frame.own t.frame.arguments simple.now values.now) }
     {
-        let mut frame = frame;
-        assign(alloc, &mut self.pools, &mut frame, b"RESULT", value)?;
-        Ok(go_on(frame))
+        let scene = self.scene(a)?;
+        self.go_on(a, here.next);
+        self.finish_behind(alloc, a, here.line, simple, &scene, values)
     }
 
-    /// A clause is finished with the value of its expression, if it has one, in a frame on top of the callers, which
-    /// stands behind the clause. Or want of memory.
-    #[tactic(auto, unfolding(rx_machine::specs::Step::finish))]
-    pub fn finish(
+    /// A clause ends, when its expressions have these values.
+    pub(crate) fn finish(
         &mut self,
         alloc: Global,
-        callers: &mut Callers,
-        frame: Frame,
-        kind: &ClauseKind,
-        value: Option<Value>,
-    ) -> Result<Next, OutOfMemory>
-        ensures finished { IfOk result (λ next. (program : Package) (a : ℕ)
-            → Leads program self.old self.new a callers.new next (λ w activity. finish w a activity (fresh program frame) (frames_of program callers.old) kind.now (values_of value))) }
-        ensures begun { IfOk result (λ next. self.new.begun ≡ begun_after self.old.begun next) }
+        a: u32,
+        here: Here,
+        simple: &Simple,
+        values: &[Value],
+    ) -> Result<Stepped, OutOfMemory>
+        requires begun { IsBegun self.old.parts.stacks a }
+        requires turn { (t : Turn) × IsTurn self.old a here t }
+        ensures { (t : Turn) → IsTurn self.old a here t
+            → IfOk result (λ stepped. IsStepped (world_of self.old) (finish t simple.now values.now) stepped (world_of self.new)) }
     {
-        match kind {
-            ClauseKind::Say(_) => self.finish_say(frame, value),
-            ClauseKind::Assign(name, _) => self.finish_assign(alloc, frame, name, value),
-            ClauseKind::Nop => Ok(go_on(frame)),
-            ClauseKind::Return(_) => self.end_frame(callers, frame, value),
-            ClauseKind::Expose(names) => self.finish_expose(alloc, frame, names),
-            ClauseKind::UseArg(names) => self.finish_use(alloc, frame, names),
-            ClauseKind::Message(_) => self.finish_message(alloc, frame, value),
+        match simple {
+            Simple::Return(_) => {
+                let value = first_value(values)?;
+                self.end_frame(a, value)?;
+                Ok(Stepped::Done)
+            }
+            Simple::Parse(parse) => self.parses(alloc, a, here, parse, values),
+            _ => {
+                self.finish_onward(alloc, a, here, simple, values)?;
+                Ok(Stepped::Done)
+            }
         }
     }
 }

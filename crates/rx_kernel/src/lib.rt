@@ -1,26 +1,41 @@
-//! The kernel: the activity machine as a program. Contracts see it as its world.
+//! The kernel of the activity machine on the whole language: the state of a run as flat code, frames and objects, and what
+//! each kind of step does to it. Its contracts speak of the world for which a state stands.
 #![tactic(auto)]
 
-mod activity;
 mod assigning;
-mod buffer;
-mod callers;
-mod computed;
-mod computing;
-mod endings;
+mod binding;
+mod cutting;
+mod ending;
+mod evaluating;
+mod exposing;
 mod finishing;
-mod frame;
-mod joining;
+mod first;
+mod halting;
+mod input;
 mod kernel;
-mod making;
-mod methods;
-mod operands;
-mod parts;
+mod laws;
+mod lines;
+mod looking;
+mod main_end;
+mod next;
+mod onward;
+mod opening;
+mod parsing;
+mod picking;
+mod raising;
+mod saying;
 mod sending;
-mod starting;
+mod settling;
 mod state;
+mod status;
+mod stepped;
 mod stepping;
-mod turns;
+mod taking_lines;
+mod texts;
+mod turning;
+mod using;
 mod waiting;
 
 pub use kernel::Kernel;
+pub use laws::view_laws;
+pub use stepped::Stepped;

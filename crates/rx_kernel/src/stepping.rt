@@ -1,206 +1,155 @@
-// A step of an activity that has frames.
-ghost use Rattle.std.specs.Prelude.{◌≡◌, ◌+◌, ◌∷◌, map, drop, slice_get, Some, None, IfOk};
-ghost use Rattle.rx_tree.specs.declared.line.expr.Operand.TheVariants.{Hole};
-ghost use Rattle.rx_tree.specs.declared.line.clause.Package.{Package};
-ghost use Rattle.rx_tree.specs.Frame.{Whole};
-ghost use Rattle.rx_machine.specs.Step.{AllFound, has_no_sends, trees_of, settle, needs_no_value, without_value, stretch, step_todo, step_frames};
-ghost use Rattle.rx_kernel.specs.Frames.{rest_of, partly_item, frame_with, clauses_of, frames_of, top_frame};
-ghost use Rattle.rx_kernel.specs.Worlds.{Leads, begun_after};
-ghost use Rattle.rx_kernel.specs.Settling.{IsSettled};
+// The step of an activity.
+ghost use Rattle.std.specs.Prelude.{◌≡◌, ◌<◌, true, false, option_map, IfOk, OnErr};
+ghost use Rattle.rx_flow.specs.Rules.{Does};
+ghost use Rattle.rx_flow.specs.Todo.{past_labels};
+ghost use Rattle.rx_frames.specs.Activities.{IsBegun, frames_at};
+ghost use Rattle.rx_frames.specs.declared.position.Position.{Position};
+ghost use Rattle.rx_frames.specs.Frames.{Frame as Recorded};
+ghost use Rattle.rx_machine.specs.Scenes.{body_of};
+ghost use Rattle.rx_machine.specs.Step.{goes, step, step_frame, step_frames, step_items};
+ghost use Rattle.rx_machine.specs.Turns.{Turn};
+ghost use Rattle.rx_kernel.specs.Readings.{reading};
+ghost use Rattle.rx_kernel.specs.States.{world_of};
+ghost use Rattle.rx_kernel.specs.Stepping.{IsKept, IsOf, IsStepped, IsTurn, goes_with, resumed_of};
+ghost use Rattle.rx_kernel.specs.Turning.{IsTop, items_from};
+ghost use Rattle.rx_kernel.specs.Views.{frame_view};
 
-use crate::callers::Callers;
-use crate::computed::Settled;
-use crate::computing::{compute, compute_rest};
-use crate::frame::{Caller, Frame, Next, Place, Progress, Top};
-use crate::parts::Parts;
-use rx_store::Program;
-use rx_tree::line::{Clause, ClauseKind, SendPart};
-use rx_tree::{OutOfMemory, Value};
-use sqlite_items::at as item_at;
+use crate::next::next_clause;
+use crate::onward::{Onward, goes_on_with};
+use crate::state::State;
+use crate::stepped::{Here, Next, Stepped};
+use rx_clause_tree::Simple;
+use rx_codes::Program;
+use rx_tree::OutOfMemory;
 use std::alloc::Global;
 
-// The clauses of a body, or of the main program.
-fn clauses_of(program: &Program, body: Option<u32>) -> &[Clause]
-    ensures { result.now ≡ clauses_of program.now body }
-{
-    match body {
-        None => program.package().main.clauses.as_slice(),
-        Some(number) => program.clauses(number),
-    }
-}
-
-// Whether all messages of a term were sent.
-#[tactic(auto, using(crate::proofs::StepLemmas::all_sent))]
-fn are_sent(sends: &[SendPart], sent: usize) -> bool
-    ensures { result ≡ has_no_sends (drop sent sends.now) }
-{
-    sends.len() <= sent
-}
-
-// Whether a clause does without the value of its last message: a message clause does that has sent all its messages.
-fn needs_no_value(kind: &ClauseKind, place: &Place) -> bool
-    ensures { result ≡ needs_no_value kind.now (map (rest_of place.now Hole) (trees_of kind.now)) }
-{
-    let ClauseKind::Message(term) = kind else {
-        return false;
-    };
-    match &place.left {
-        None => are_sent(term.sends.as_slice(), place.sent),
-        Some(_) => false,
-    }
-}
-
-impl Parts {
-    // The expressions of a clause have come to this.
-    fn settle(
+impl State {
+    // A clause goes on so, or not where its answer is still awaited.
+    fn go_onward(
         &mut self,
         alloc: Global,
+        a: u32,
+        here: Here,
+        simple: &Simple,
+        onward: Option<Onward>,
+    ) -> Result<Stepped, OutOfMemory>
+        requires begun { IsBegun self.old.parts.stacks a }
+        requires turn { (t : Turn) × IsTurn self.old a here t }
+        requires code { (frame : Recorded Position) → IsTop self.old.parts.stacks a frame
+            → IsOf (body_of self.old.program frame.body) onward }
+        ensures { (t : Turn) → IsTurn self.old a here t → IfOk result (λ stepped.
+            IsStepped (world_of self.old) (goes_with t simple.now (option_map resumed_of onward)) stepped (world_of self.new)) }
+    {
+        match onward {
+            Some(Onward::With(ready)) => self.stretch(alloc, a, here, simple, ready),
+            Some(Onward::Without) => self.finish(alloc, a, here, simple, &[]),
+            Some(Onward::Raises(number)) => {
+                self.raise(a, number, here.line)?;
+                Ok(Stepped::Done)
+            }
+            None => Ok(Stepped::Done),
+        }
+    }
+
+    // The step of the frame on top with this clause, which is kept under a number.
+    fn step_simple(
+        &mut self,
+        alloc: Global,
+        a: u32,
         program: &Program,
-        a: u32,
-        callers: &mut Callers,
-        frame: Frame,
-        next: usize,
-        clause: &Clause,
-        settled: Settled,
-    ) -> Result<Next, OutOfMemory>
-        requires next { next ≡ frame.at + 1 }
-        requires clause { slice_get (clauses_of program.now frame.body) frame.at ≡ Some clause.now }
-        ensures settled { IfOk result (λ left. (found : AllFound) → IsSettled (trees_of clause.now.kind) found settled → Leads program.now self.old self.new a callers.new left
-            (λ w activity. settle w a activity (frame_with program.now frame (map Whole (drop next (clauses_of program.now frame.body)))) (frames_of program.now callers.old) clause.now found)) }
-        ensures begun { IfOk result (λ left. self.new.begun ≡ begun_after self.old.begun left) }
+        next: Next,
+        simple: &Simple,
+    ) -> Result<Stepped, OutOfMemory>
+        requires begun { IsBegun self.old.parts.stacks a }
+        requires turn { (t : Turn) × IsTurn self.old a next.here t }
+        requires running { self.old.closed ≡ false }
+        requires program { program.now ≡ self.old.program }
+        requires kept { (frame : Recorded Position) → IsTop self.old.parts.stacks a frame
+            → IsKept program.now frame.body next.number simple.now }
+        ensures { (t : Turn) → IsTurn self.old a next.here t → IfOk result (λ stepped.
+            IsStepped (world_of self.old) (goes t (Does simple.now)) stepped (world_of self.new)) }
     {
-        match settled {
-            Settled::Values(value) => {
-                let mut frame = frame;
-                frame.at = next;
-                self.finish(alloc, callers, frame, &clause.kind, value)
-            }
-            Settled::Raises(number) => self.raise(a, callers, frame.completes, number, clause.line),
-            Settled::Calls(sent, place) => {
-                let caller = Caller { frame, place };
-                self.send(alloc, program, a, callers, caller, clause.line, sent)
+        let Some(frame) = self.parts.stacks.top(a) else {
+            // A clause is one of a frame.
+            return Err(OutOfMemory);
+        };
+        let onward = goes_on_with(alloc, program, frame, next.number, simple)?;
+        self.go_onward(alloc, a, next.here, simple, onward)
+    }
+
+    // The step of the frame on top, which asks for no pool.
+    fn step_clause(&mut self, alloc: Global, a: u32) -> Result<Stepped, OutOfMemory>
+        requires begun { IsBegun self.old.parts.stacks a }
+        requires running { self.old.closed ≡ false }
+        ensures { (frame : Recorded Position) → IsTop self.old.parts.stacks a frame → IfOk result (λ stepped.
+            IsStepped (world_of self.old) (step_items (world_of self.old) a (frame_view (reading self.old.program) frame)
+            (past_labels (items_from self.old.program frame frame.todo.place))) stepped (world_of self.new)) }
+    {
+        let Some(frame) = self.parts.stacks.top(a) else {
+            // It never comes: an activity without a frame sends its first message.
+            return Err(OutOfMemory);
+        };
+        let program = self.program.share()?;
+        match next_clause(&program, frame)? {
+            Some((next, simple)) => self.step_simple(alloc, a, &program, next, simple),
+            None => {
+                self.end_frame(a, None)?;
+                Ok(Stepped::Done)
             }
         }
     }
 
-    // The last message of a clause gave no value.
-    fn go_without(
-        &mut self,
-        alloc: Global,
-        a: u32,
-        callers: &mut Callers,
-        frame: Frame,
-        next: usize,
-        clause: &Clause,
-        place: Place,
-    ) -> Result<Next, OutOfMemory>
-        requires next { next ≡ frame.at + 1 }
-        ensures without { IfOk result (λ left. (program : Package) → Leads program self.old self.new a callers.new left
-            (λ w activity. without_value w a activity (frame_with program frame (map Whole (drop next (clauses_of program frame.body)))) (frames_of program callers.old) clause.now
-            (map (rest_of place Hole) (trees_of clause.now.kind)))) }
-        ensures begun { IfOk result (λ left. self.new.begun ≡ begun_after self.old.begun left) }
+    // The step of the frame on top.
+    fn step_frame(&mut self, alloc: Global, a: u32) -> Result<Stepped, OutOfMemory>
+        requires begun { IsBegun self.old.parts.stacks a }
+        requires frame { (frame : Recorded Position) × IsTop self.old.parts.stacks a frame }
+        requires running { self.old.closed ≡ false }
+        ensures { (frame : Recorded Position) → IsTop self.old.parts.stacks a frame → IfOk result (λ stepped. IsStepped (world_of self.old)
+            (step_frame (world_of self.old) a (frame_view (reading self.old.program) frame)) stepped (world_of self.new)) }
     {
-        if !needs_no_value(&clause.kind, &place) {
-            return self.raise(a, callers, frame.completes, 91, clause.line);
+        if self.take_pool(a) {
+            return Ok(Stepped::Done);
         }
-        let mut frame = frame;
-        frame.at = next;
-        self.finish(alloc, callers, frame, &clause.kind, None)
+        self.step_clause(alloc, a)
     }
 
-    // The stretch of a frame behind an answer in this clause.
-    #[tactic(auto, unfolding(rx_machine::specs::Step::stretch))]
-    fn go_on(
-        &mut self,
-        alloc: Global,
-        program: &Program,
-        a: u32,
-        callers: &mut Callers,
-        frame: Frame,
-        next: usize,
-        clause: &Clause,
-        place: Place,
-        answer: Option<Value>,
-    ) -> Result<Next, OutOfMemory>
-        requires next { next ≡ frame.at + 1 }
-        requires clause { slice_get (clauses_of program.now frame.body) frame.at ≡ Some clause.now }
-        ensures stepped { IfOk result (λ left. Leads program.now self.old self.new a callers.new left
-            (λ w activity. stretch w a activity (frame_with program.now frame (map Whole (drop next (clauses_of program.now frame.body)))) (frames_of program.now callers.old)
-            (partly_item clause.now place answer))) }
-        ensures begun { IfOk result (λ left. self.new.begun ≡ begun_after self.old.begun left) }
+    // The first kind of step that applies to an activity.
+    fn step_top(&mut self, alloc: Global, a: u32) -> Result<Stepped, OutOfMemory>
+        requires begun { IsBegun self.old.parts.stacks a }
+        requires running { self.old.closed ≡ false }
+        ensures { IfOk result (λ stepped. IsStepped (world_of self.old)
+            (step_frames (world_of self.old) a (frames_at (world_of self.old).activities a)) stepped (world_of self.new)) }
     {
-        match answer {
-            None => self.go_without(alloc, a, callers, frame, next, clause, place),
-            Some(value) => {
-                let settled = compute_rest(
-                    alloc,
-                    program,
-                    &self.pools,
-                    &frame,
-                    &clause.kind,
-                    place,
-                    value,
-                )?;
-                self.settle(alloc, program, a, callers, frame, next, clause, settled)
-            }
+        if self.parts.stacks.height(a) == 0 {
+            self.send_first(alloc, a)?;
+            return Ok(Stepped::Done);
         }
+        self.step_frame(alloc, a)
     }
 
-    // The stretch of a frame at this clause.
-    fn stretch(
-        &mut self,
-        alloc: Global,
-        program: &Program,
-        a: u32,
-        callers: &mut Callers,
-        top: Top,
-        next: usize,
-        clause: &Clause,
-    ) -> Result<Next, OutOfMemory>
-        requires next { next ≡ top.frame.at + 1 }
-        requires clause { slice_get (clauses_of program.now top.frame.body) top.frame.at ≡ Some clause.now }
-        ensures stepped { IfOk result (λ left. Leads program.now self.old self.new a callers.new left
-            (λ w activity. step_todo w a activity (top_frame program.now top) (frames_of program.now callers.old) (top_frame program.now top).todo)) }
-        ensures begun { IfOk result (λ left. self.new.begun ≡ begun_after self.old.begun left) }
+    /// The step of an enabled activity, counted; or want of memory, after which no further step is taken. A step that wants a
+    /// line of input that isn't there changes nothing, and isn't counted.
+    pub fn step(&mut self, alloc: Global, a: u32) -> Result<Stepped, OutOfMemory>
+        requires begun { IsBegun self.old.parts.stacks a }
+        requires steps_left { self.old.steps < self.old.budget }
+        ensures stepped { IfOk result (λ stepped. IsStepped (world_of self.old) (step (world_of self.old) a) stepped (world_of self.new)) }
+        ensures steps { OnErr result (self.new.steps ≡ self.old.steps) }
+        ensures closed { OnErr result (self.new.closed ≡ true) }
     {
-        let Top { frame, progress } = top;
-        match progress {
-            Progress::Fresh => {
-                let settled = compute(alloc, program, &self.pools, &frame, &clause.kind)?;
-                self.settle(alloc, program, a, callers, frame, next, clause, settled)
-            }
-            Progress::Answered(place, answer) => {
-                self.go_on(
-                    alloc, program, a, callers, frame, next, clause, place, answer,
-                )
+        if self.closed {
+            return Err(OutOfMemory);
+        }
+        let steps = self.steps;
+        self.steps = steps + 1;
+        let stepped = self.step_top(alloc, a);
+        match stepped {
+            Ok(Stepped::Done) => {}
+            Ok(Stepped::WantsLine) => self.steps = steps,
+            Err(_) => {
+                self.steps = steps;
+                self.closed = true;
             }
         }
-    }
-
-    /// The step of an activity with this frame on top of the callers, or want of memory.
-    pub fn step(
-        &mut self,
-        alloc: Global,
-        program: &Program,
-        a: u32,
-        callers: &mut Callers,
-        top: Top,
-    ) -> Result<Next, OutOfMemory>
-        ensures stepped { IfOk result (λ left. Leads program.now self.old self.new a callers.new left
-            (λ w activity. step_frames w a activity (top_frame program.now top ∷ frames_of program.now callers.old))) }
-        ensures begun { IfOk result (λ left. self.new.begun ≡ begun_after self.old.begun left) }
-    {
-        let mut top = top;
-        if top.frame.asks {
-            top.frame.asks = false;
-            top.frame.reserves = true;
-            return Ok(Next::Top(top));
-        }
-        let clauses = clauses_of(program, top.frame.body);
-        let at = top.frame.at;
-        match item_at(clauses, at) {
-            None => self.end_frame(callers, top.frame, None),
-            Some(clause) => self.stretch(alloc, program, a, callers, top, at + 1, clause),
-        }
+        stepped
     }
 }

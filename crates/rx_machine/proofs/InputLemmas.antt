@@ -1,328 +1,415 @@
--- A step that reads no input is the same whatever lines are behind.
-use Rattle.std.proofs.Common.{◌≡◌, ℕ, Bool, true, false, cond, ◌&&◌, List, [], ◌∷◌, Option, None, Some, refl, sym, ◌∙◌, ap, subst}
-use Rattle.std.specs.Prelude.{IsTrue, codes, length, nat_le}
-use Rattle.rx_tree.specs.Bytes.{longest}
+-- More input changes no step that wants no line.
+use Rattle.std.proofs.Common.{◌≡◌, ℕ, Bool, true, false, ◌&&◌, List, [], ◌∷◌, ◌++◌, Option, None, Some, Result, Ok, Err, refl, sym, ap, ◌∙◌, subst}
+use Rattle.std.specs.Prelude.{if◌then◌else◌, IsTrue, codes, map, option_map}
+use Rattle.std.specs.Cmp.{first_so, second_so}
+use Rattle.rx_tree.specs.Object.{Contents, Plain, ClassObject, Places, Line, Names, Message}
+use Rattle.rx_tree.specs.declared.activity.Outcome.TheVariants as outcome
+use Rattle.rx_tree.specs.declared.name.Name.{Name}
+use Rattle.rx_tree.specs.declared.name.Name.TheVariants.{Simple}
 use Rattle.rx_tree.specs.declared.value.Value.{Value}
-use Rattle.rx_tree.specs.declared.value.Value.TheVariants.{Str, Ref}
-use Rattle.rx_tree.specs.declared.class.MethodDef.{MethodDef}
-use Rattle.rx_tree.specs.declared.line.expr.Expr.{Expr}
-use Rattle.rx_tree.specs.declared.sent.Sent.{Sent}
-use Rattle.rx_tree.specs.declared.line.clause.Clause.{Clause}
-use Rattle.rx_tree.specs.declared.line.clause.ClauseKind.{ClauseKind}
-use Rattle.rx_tree.specs.declared.line.clause.ClauseKind.TheVariants.{Say, Assign, Nop, Return, Expose, UseArg, Message}
-use Rattle.rx_tree.specs.Frame.{Frame, Todo, Whole, Partly}
-use Rattle.rx_tree.specs.declared.activity.Outcome.{Outcome}
-use Rattle.rx_tree.specs.declared.activity.Outcome.TheVariants.{Failed}
-use Rattle.rx_tree.specs.Object.{Sending}
-use Rattle.rx_tree.specs.World.{World, Activity, Wait, Nothing, First, ForMessage, AtGuard}
-use Rattle.rx_machine.specs.Enabled.{activity_at, enabled, robin, holder_before}
-use Rattle.rx_machine.specs.Classes.{method_of, string_of_object}
-use Rattle.rx_machine.specs.Variables.{first_of_args, other_args}
-use Rattle.rx_machine.specs.Messages.{completed, result_of, sending_at}
-use Rattle.rx_machine.specs.Ending.{given_beneath, gives}
-use Rattle.rx_machine.specs.Ending as ending
-use Rattle.rx_machine.specs.Raising.{raise}
-use Rattle.rx_machine.specs.Sending.{Method, OfClass, New, AsString, Init, Start, StartAgain, NoMethod, are_full, has_no_room, may_be_made, next_object, number_of, with_object, called, given_without, string_given, made, made_by, performed, method_for, send, most_activities, name_in, started_with, started, first_refused, first_without, first_performed, first_sent_by, first_sent}
-use Rattle.rx_machine.specs.Step.{Stepped, Done, WantsLine, step, AllFound, Values, Raises, Calls, step_todo, step_begun, step_frames, step_activity, stretch, settle, without_value, finish, partly, kind_of, line_of, needs_no_value, counted}
+use Rattle.rx_clause_tree.specs.declared.simple.Simple.{Simple as OneClause}
+use Rattle.rx_clause_tree.specs.declared.simple.Simple.TheVariants as simple
+use Rattle.rx_clause_tree.specs.declared.template.Parse.{Parse}
+use Rattle.rx_clause_tree.specs.declared.template.ParseFrom.{ParseFrom}
+use Rattle.rx_clause_tree.specs.declared.template.ParseFrom.TheVariants as from
+use Rattle.rx_clause_tree.specs.declared.template.Template.{Template}
+use Rattle.rx_template.specs.declared.template.TPart.{TPart}
+use Rattle.rx_heap.specs.Objects.{contents_at}
+use Rattle.rx_frames.specs.declared.parts.Own.{Own}
+use Rattle.rx_frames.specs.declared.position.CallState.{CallState}
+use Rattle.rx_frames.specs.declared.position.CallState.TheVariants.{NoCall, Awaiting, Answered}
+use Rattle.rx_frames.specs.Frames.{Frame}
+use Rattle.rx_frames.specs.Activities.{activity_at, first_message, frames_at, with_change_at}
+use Rattle.rx_names.specs.Homes.{variables_at}
+use Rattle.rx_flow.specs.Rules.{Rule, Does, Begins, Asks, Loops, Fails}
+use Rattle.rx_flow.specs.Todo.{Item, past_labels}
+use Rattle.rx_eval.specs.declared.call.Sent.{Sent as Called}
+use Rattle.rx_eval.specs.declared.call.Sent.TheVariants as call
+use Rattle.rx_eval.specs.Evaluation.{AllFound, AllDone, AllRaise, AllNoValue, AllCall}
+use Rattle.rx_eval.specs.Places.{Trees}
+use Rattle.rx_sends.specs.declared.parts.Sent.{Sent}
+use Rattle.rx_native.specs.Outcomes.{or_nil}
+use Rattle.rx_sends.specs.Sending.{Sending, Done, Raises, NoMethod, completed, sent}
+use Rattle.rx_machine.specs.Todo.{Todo, by_clauses}
+use Rattle.rx_machine.specs.World as w
+use Rattle.rx_machine.specs.World.{World, Stepped, WantsLine, counted, parts_of, with_parts}
+use Rattle.rx_machine.specs.Turns.{Turn, awaits, goes_on, line}
+use Rattle.rx_machine.specs.Ending.{ended, given_by, handed, without_top}
+use Rattle.rx_machine.specs.Raising.{raised}
+use Rattle.rx_machine.specs.Sending.{calls, facts_of, first_of, first_sent, message, sending_of, sends}
+use Rattle.rx_machine.specs.Scenes.{comes_to}
+use Rattle.rx_machine.specs.Assigning.{Assigned, All, TooLong, assign_from, assigns, derived, expose_from, finished, is_too_long, with_exposed, with_value}
+use Rattle.rx_machine.specs.Values.{first_value}
+use Rattle.rx_machine.specs.Arguments.{rows}
+use Rattle.rx_machine.specs.Variables.{dropped, exposes_by}
+use Rattle.rx_machine.specs.Templates.{all_rows, alone, bound_all, cuts, from_input, from_queue, in_case, input_line, parses_bound, pulled_line, texts_from}
+use Rattle.rx_machine.specs.Answers as answers
+use Rattle.rx_machine.specs.Answers.{Resumed, Left, Without, awaited_by, resumed}
+use Rattle.rx_machine.specs.Clauses.{finish, refused, trees_of}
+use Rattle.rx_machine.specs.Step.{goes, goes_by, resumes, rule_of, settle, starts, step, step_frame, step_frames, step_items, stretch, takes, turn}
+use Rattle.rx_machine.specs.Enabled.{enabled, holder_before, robin}
 use Rattle.rx_machine.specs.End.{end}
-use Rattle.rx_machine.specs.Runs.{run, after, world_after, is_done, is_going, may_pick, legal, IsSerialAfter, SerialRun}
 use Rattle.rx_machine.specs.Input.{with_more}
+use Rattle.rx_machine.proofs.GrowthLemmas.{after-ended}
+use Rattle.rx_machine.specs.Runs.{IsSerialAfter, SerialRun, after, is_done, is_going, legal, may_pick, run, world_after}
 
--- a step with more lines behind
+-- the same turn with more input
+abbrev turn_with : List (List ℕ) → Bool → Turn → Turn
+turn_with more ended t = record t { world = with_more more ended t.world }
+
 abbrev pub stepped_with : List (List ℕ) → Bool → Stepped → Stepped
-stepped_with more ended (Done w) = Done (with_more more ended w)
+stepped_with more ended (w.Done next) = w.Done (with_more more ended next)
 stepped_with more ended WantsLine = WantsLine
 
--- one world or another
-cond-with : (more : List (List ℕ)) (ended : Bool) (test : Bool) (x y with_x with_y : World)
-    → with_x ≡ with_more more ended x → with_y ≡ with_more more ended y → cond test with_x with_y ≡ with_more more ended (cond test x y)
-cond-with more ended true x y with_x with_y first second = first
-cond-with more ended false x y with_x with_y first second = second
+-- a step that wants no line is the same with more input
+abbrev pub Keeps : List (List ℕ) → Bool → Stepped → Stepped → Type 0
+Keeps more ended one other = is_done one ≡ true → other ≡ stepped_with more ended one
 
--- a Message is complete
-completed-with : (more : List (List ℕ)) (ended : Bool) (w : World) (message : Option ℕ) (outcome : Outcome)
-    → completed (with_more more ended w) message outcome ≡ with_more more ended (completed w message outcome)
-unfolding completed
-completed-with more ended w None outcome = refl
-completed-with more ended w (Some message) outcome = refl
+-- ---- frames that end, errors and messages
 
--- a frame ends
-given_beneath-with : (more : List (List ℕ)) (ended : Bool) (w : World) (a : ℕ) (activity : Activity) (frames : List Frame) (answer : Option Value)
-    → given_beneath (with_more more ended w) a activity frames answer ≡ with_more more ended (given_beneath w a activity frames answer)
-given_beneath-with more ended w a activity [] answer = refl
-given_beneath-with more ended w a activity (frame ∷ frames) answer = refl
+handed-with : (more : List (List ℕ)) (last : Bool) (v : World) (a : ℕ) (value : Option Value) (frames : List (Frame Todo))
+    → handed (with_more more last v) a value frames ≡ with_more more last (handed v a value frames)
+handed-with more last v a value [] = refl
+handed-with more last v a value (frame ∷ frames) = refl
 
--- a frame that has ended gives its value to the one beneath
-ended-with : (more : List (List ℕ)) (ended : Bool) (w : World) (a : ℕ) (activity : Activity) (frame : Frame) (frames : List Frame) (value : Option Value)
-    → ending.ended (with_more more ended w) a activity frame frames value ≡ with_more more ended (ending.ended w a activity frame frames value)
-unfolding ending.ended
-ended-with more ended w a activity frame frames value =
-    ap (λ v. given_beneath v a activity frames (gives frame value)) (completed-with more ended w frame.completes (result_of (gives frame value)))
-    ∙ given_beneath-with more ended (completed w frame.completes (result_of (gives frame value))) a activity frames (gives frame value)
+ended-with : (more : List (List ℕ)) (last : Bool) (v : World) (a : ℕ) (frame : Frame Todo) (value : Option Value)
+    → ended (with_more more last v) a frame value ≡ with_more more last (ended v a frame value)
+unfolding ended
+ended-with more last v a frame value =
+    let given : Option Value = given_by frame value in
+    let next : World = record v {
+      objects = completed v.objects frame.completes (outcome.Given (or_nil given));
+      activities = with_change_at v.activities a without_top;
+    } in
+    handed-with more last next a given (frames_at next.activities a)
 
--- an error is raised
-raise-with : (more : List (List ℕ)) (ended : Bool) (w : World) (a : ℕ) (activity : Activity) (frames : List Frame) (number line : ℕ)
-    → raise (with_more more ended w) a activity frames number line ≡ with_more more ended (raise w a activity frames number line)
-unfolding raise
-raise-with more ended w a activity [] number line = refl
-raise-with more ended w a activity (frame ∷ frames) number line =
-    ap (λ v. raise v a activity frames number line) (completed-with more ended w frame.completes (Failed number))
-    ∙ raise-with more ended (completed w frame.completes (Failed number)) a activity frames number line
+raised-with : (more : List (List ℕ)) (last : Bool) (v : World) (a number at : ℕ)
+    → raised (with_more more last v) a number at ≡ with_more more last (raised v a number at)
+unfolding raised
+raised-with more last v a number at = refl
 
--- a method's frame is put on top
-called-with : (more : List (List ℕ)) (ended : Bool) (w : World) (a : ℕ) (activity : Activity) (frames : List Frame) (line object class : ℕ) (method : MethodDef) (args : List (Option Value))
-    → called (with_more more ended w) a activity frames line object class method args ≡ with_more more ended (called w a activity frames line object class method args)
-called-with more ended w a activity frames line object class method args =
-    cond-with more ended (are_full frames) _ _ _ _ (raise-with more ended w a activity frames 11 line) refl
+sending-with : (more : List (List ℕ)) (last : Bool) (v : World) (a at : ℕ) (sending : Sending Todo)
+    → sending_of (with_more more last v) a at sending ≡ with_more more last (sending_of v a at sending)
+sending-with more last v a at (Done parts) = refl
+sending-with more last v a at (Raises number parts) = raised-with more last (with_parts v parts) a number at
+sending-with more last v a at (NoMethod parts) = raised-with more last (with_parts v parts) a _ at
 
--- a native method is done
-given_without-with : (more : List (List ℕ)) (ended : Bool) (w : World) (a : ℕ) (activity : Activity) (frame : Frame) (frames : List Frame) (line : ℕ) (args : List (Option Value)) (answer : Option Value)
-    → given_without (with_more more ended w) a activity frame frames line args answer ≡ with_more more ended (given_without w a activity frame frames line args answer)
-given_without-with more ended w a activity frame frames line [] answer = refl
-given_without-with more ended w a activity frame frames line (arg ∷ args) answer = raise-with more ended w a activity (frame ∷ frames) 93 line
+sends-with : (more : List (List ℕ)) (last : Bool) (v : World) (a at : ℕ) (one : Sent)
+    → sends (with_more more last v) a at one ≡ with_more more last (sends v a at one)
+unfolding sends
+sends-with more last v a at one = sending-with more last v a at (sent (by_clauses v.program) (facts_of v a) (parts_of v) a one)
 
--- a native method gives a string
-string_given-with : (more : List (List ℕ)) (ended : Bool) (w : World) (a : ℕ) (activity : Activity) (frame : Frame) (frames : List Frame) (line : ℕ) (args : List (Option Value)) (text : List ℕ)
-    → string_given (with_more more ended w) a activity frame frames line args text ≡ with_more more ended (string_given w a activity frame frames line args text)
-string_given-with more ended w a activity frame frames line args text =
-    cond-with more ended (nat_le (length text) longest) _ _ _ _ (given_without-with more ended w a activity frame frames line args (Some (Str text)))
-    (raise-with more ended w a activity (frame ∷ frames) 5 line)
+calls-with : (more : List (List ℕ)) (last : Bool) (v : World) (a at : ℕ) (one : Called)
+    → calls (with_more more last v) a at one ≡ with_more more last (calls v a at one)
+calls-with more last v a at (call.Message target name above args) = sends-with more last v a at (message target name above args)
+calls-with more last v a at (call.Label name args) = refl
+calls-with more last v a at (call.Routine name args) = refl
 
--- NEW makes an object
-made-with : (more : List (List ℕ)) (ended : Bool) (w : World) (a : ℕ) (activity : Activity) (frame : Frame) (frames : List Frame) (line class : ℕ) (args : List (Option Value)) (init : Option MethodDef)
-    → made (with_more more ended w) a activity frame frames line class args init ≡ with_more more ended (made w a activity frame frames line class args init)
-made-with more ended w a activity frame frames line class args None =
-    cond-with more ended (has_no_room w.objects) _ _ _ _ (raise-with more ended w a activity (frame ∷ frames) 5 line)
-    (given_without-with more ended (with_object w class) a activity frame frames line args (Some (Ref (next_object w))))
-made-with more ended w a activity frame frames line class args (Some init) =
-    cond-with more ended (are_full (frame ∷ frames)) _ _ _ _ (raise-with more ended w a activity (frame ∷ frames) 11 line)
-    (cond-with more ended (has_no_room w.objects) _ _ _ _ (raise-with more ended w a activity (frame ∷ frames) 5 line) refl)
+first-with : (more : List (List ℕ)) (last : Bool) (v : World) (a : ℕ) (contents : Contents)
+    → first_sent (with_more more last v) a contents ≡ with_more more last (first_sent v a contents)
+first-with more last v a (Message sending) = sends-with more last v a 0 (message sending.target sending.name None sending.args)
+first-with more last v a Plain = refl
+first-with more last v a ClassObject = refl
+first-with more last v a (Places places) = refl
+first-with more last v a (Line items) = refl
+first-with more last v a (Names entries) = refl
 
--- a class object is sent NEW
-made_by-with : (more : List (List ℕ)) (ended : Bool) (w : World) (a : ℕ) (activity : Activity) (frame : Frame) (frames : List Frame) (line : ℕ) (args : List (Option Value)) (class : ℕ)
-    → made_by (with_more more ended w) a activity frame frames line args class ≡ with_more more ended (made_by w a activity frame frames line args class)
-made_by-with more ended w a activity frame frames line args class =
-    cond-with more ended (may_be_made w.program.classes class) _ _ _ _
-    (made-with more ended w a activity frame frames line class args (method_of w.program.classes class (codes "INIT")))
-    (raise-with more ended w a activity (frame ∷ frames) 93 line)
+first-of-with : (more : List (List ℕ)) (last : Bool) (v : World) (a : ℕ) (number : Option ℕ)
+    → first_of (with_more more last v) a number ≡ with_more more last (first_of v a number)
+first-of-with more last v a None = refl
+first-of-with more last v a (Some number) = first-with more last v a (contents_at v.objects number)
 
--- START of a message of a name, or of none
-started_with-with : (more : List (List ℕ)) (ended : Bool) (w : World) (a : ℕ) (activity : Activity) (frame : Frame) (frames : List Frame) (line : ℕ) (target : Value) (name : Option (List ℕ)) (args : List (Option Value))
-    → started_with (with_more more ended w) a activity frame frames line target name args ≡ with_more more ended (started_with w a activity frame frames line target name args)
-started_with-with more ended w a activity frame frames line target None args = raise-with more ended w a activity (frame ∷ frames) 93 line
-started_with-with more ended w a activity frame frames line target (Some name) args =
-    cond-with more ended (has_no_room w.objects) _ _ _ _ (raise-with more ended w a activity (frame ∷ frames) 5 line) refl
+-- ---- variables
 
--- START
-started-with : (more : List (List ℕ)) (ended : Bool) (w : World) (a : ℕ) (activity : Activity) (frame : Frame) (frames : List Frame) (line : ℕ) (target : Value) (args : List (Option Value))
-    → started (with_more more ended w) a activity frame frames line target args ≡ with_more more ended (started w a activity frame frames line target args)
-started-with more ended w a activity frame frames line target args =
-    cond-with more ended (nat_le most_activities (length w.activities)) _ _ _ _ (raise-with more ended w a activity (frame ∷ frames) 5 line)
-    (started_with-with more ended w a activity frame frames line target (name_in (first_of_args args)) (other_args args))
+abbrev assigned_with : List (List ℕ) → Bool → Assigned → Assigned
+assigned_with more last (All v) = All (with_more more last v)
+assigned_with more last (TooLong v) = TooLong (with_more more last v)
 
--- a message is sent
-performed-with : (more : List (List ℕ)) (ended : Bool) (w : World) (a : ℕ) (activity : Activity) (frame : Frame) (frames : List Frame) (line : ℕ) (sent : Sent) (method : Method)
-    → performed (with_more more ended w) a activity frame frames line sent method ≡ with_more more ended (performed w a activity frame frames line sent method)
-performed-with more ended w a activity frame frames line sent (OfClass class method) =
-    called-with more ended w a activity (frame ∷ frames) line (number_of sent.target) class method sent.args
-performed-with more ended w a activity frame frames line sent New = made_by-with more ended w a activity frame frames line sent.args (number_of sent.target)
-performed-with more ended w a activity frame frames line sent AsString =
-    string_given-with more ended w a activity frame frames line sent.args (string_of_object w.program.classes w.objects (number_of sent.target))
-performed-with more ended w a activity frame frames line sent Init = given_without-with more ended w a activity frame frames line sent.args None
-performed-with more ended w a activity frame frames line sent Start = started-with more ended w a activity frame frames line sent.target sent.args
-performed-with more ended w a activity frame frames line sent StartAgain = raise-with more ended w a activity (frame ∷ frames) 93 line
-performed-with more ended w a activity frame frames line sent NoMethod = raise-with more ended w a activity (frame ∷ frames) 97 line
+if-with : (more : List (List ℕ)) (last : Bool) (test : Bool) (one other longer : Assigned) → longer ≡ assigned_with more last other
+    → (if test then assigned_with more last one else longer) ≡ assigned_with more last (if test then one else other)
+if-with more last true one other longer is = refl
+if-with more last false one other longer is = is
 
--- the method of a message is looked up
-send-with : (more : List (List ℕ)) (ended : Bool) (w : World) (a : ℕ) (activity : Activity) (frame : Frame) (frames : List Frame) (line : ℕ) (sent : Sent)
-    → send (with_more more ended w) a activity frame frames line sent ≡ with_more more ended (send w a activity frame frames line sent)
-unfolding send
-send-with more ended w a activity frame frames line sent =
-    performed-with more ended w a activity frame frames line sent (method_for w.program.classes w.objects sent.target sent.name)
+assign-with : (more : List (List ℕ)) (last : Bool) (v : World) (a : ℕ) (rows : List (Name × Option Value))
+    → assign_from (with_more more last v) a rows ≡ assigned_with more last (assign_from v a rows)
+assign-with more last v a [] = refl
+assign-with more last v a (row ∷ rows) =
+    let next : World = with_value v a (derived v a row.0) row.1 in
+    if-with more last (is_too_long (derived v a row.0)) (TooLong v) (assign_from next a rows) (assign_from (with_more more last next) a rows)
+    (assign-with more last next a rows)
 
--- a clause comes to its end
-finish-with : (more : List (List ℕ)) (ended : Bool) (w : World) (a : ℕ) (activity : Activity) (frame : Frame) (frames : List Frame) (kind : ClauseKind) (values : List Value)
-    → finish (with_more more ended w) a activity frame frames kind values ≡ with_more more ended (finish w a activity frame frames kind values)
+expose-with : (more : List (List ℕ)) (last : Bool) (v : World) (a pool : ℕ) (names : List Name)
+    → expose_from (with_more more last v) a pool names ≡ assigned_with more last (expose_from v a pool names)
+expose-with more last v a pool [] = refl
+expose-with more last v a pool (name ∷ names) =
+    let next : World = with_exposed v a pool (derived v a name) in
+    if-with more last (is_too_long (derived v a name)) (TooLong v) (expose_from next a pool names) (expose_from (with_more more last next) a pool names)
+    (expose-with more last next a pool names)
+
+finished-with : (more : List (List ℕ)) (last : Bool) (t : Turn) (one longer : Assigned) → longer ≡ assigned_with more last one
+    → finished (turn_with more last t) longer ≡ with_more more last (finished t one)
+finished-with more last t (All v) longer is = ap (finished (turn_with more last t)) is
+finished-with more last t (TooLong v) longer is = ap (finished (turn_with more last t)) is ∙ raised-with more last v t.number _ (line t)
+
+assigns-with : (more : List (List ℕ)) (last : Bool) (t : Turn) (rows : List (Name × Option Value))
+    → assigns (turn_with more last t) rows ≡ with_more more last (assigns t rows)
+assigns-with more last t rows =
+    finished-with more last t (assign_from (goes_on t) t.number rows) (assign_from (with_more more last (goes_on t)) t.number rows)
+    (assign-with more last (goes_on t) t.number rows)
+
+exposes-with : (more : List (List ℕ)) (last : Bool) (t : Turn) (names : List Name) (own : Option Own)
+    → exposes_by (turn_with more last t) names own ≡ with_more more last (exposes_by t names own)
+exposes-with more last t names None = refl
+exposes-with more last t names (Some own) =
+    finished-with more last t (expose_from (goes_on t) t.number own.pool names) (expose_from (with_more more last (goes_on t)) t.number own.pool names)
+    (expose-with more last (goes_on t) t.number own.pool names)
+
+-- ---- lines that are read
+
+-- a line that is there is the same one
+abbrev LineKeeps : List (List ℕ) → Bool → Option (List ℕ × World) → Option (List ℕ × World) → Type 0
+LineKeeps more last None longer = Unit {0}
+LineKeeps more last (Some taken) longer = longer ≡ Some (taken.0, with_more more last taken.1)
+
+abbrev TextsKeep : List (List ℕ) → Bool → Option (List (List ℕ) × World) → Option (List (List ℕ) × World) → Type 0
+TextsKeep more last None longer = Unit {0}
+TextsKeep more last (Some taken) longer = longer ≡ Some (taken.0, with_more more last taken.1)
+
+no-line : (more : List (List ℕ)) (last : Bool) (v : World) (test : Bool) (longer : Option (List ℕ × World)) → test ≡ false
+    → LineKeeps more last (if test then Some ([], v) else None) longer
+no-line more last v true longer is = cc
+no-line more last v false longer is = tt
+
+input-keeps : (more : List (List ℕ)) (last : Bool) (v : World) (lines : List (List ℕ)) → v.ended ≡ false
+    → LineKeeps more last (from_input v lines) (from_input (with_more more last v) (lines ++ more))
+input-keeps more last v [] unknown = no-line more last v v.ended (from_input (with_more more last v) more) unknown
+input-keeps more last v (line ∷ lines) unknown = refl
+
+queue-keeps : (more : List (List ℕ)) (last : Bool) (v : World) (lines : List (List ℕ)) → v.ended ≡ false
+    → LineKeeps more last (from_queue v lines) (from_queue (with_more more last v) lines)
+queue-keeps more last v [] unknown = input-keeps more last v v.rest unknown
+queue-keeps more last v (line ∷ lines) unknown = refl
+
+alone-keeps : (more : List (List ℕ)) (last : Bool) (taken longer : Option (List ℕ × World)) → LineKeeps more last taken longer
+    → TextsKeep more last (option_map alone taken) (option_map alone longer)
+alone-keeps more last None longer keeps = tt
+alone-keeps more last (Some taken) longer keeps = ap (option_map alone) keeps
+
+texts-keep : (more : List (List ℕ)) (last : Bool) (t : Turn) (values : List Value) (origin : ParseFrom) → t.world.ended ≡ false
+    → TextsKeep more last (texts_from t values origin) (texts_from (turn_with more last t) values origin)
+texts-keep more last t values from.Arg unknown = refl
+texts-keep more last t values from.Pull unknown =
+    alone-keeps more last (pulled_line t.world) (pulled_line (with_more more last t.world)) (queue-keeps more last t.world t.world.queue unknown)
+texts-keep more last t values from.LineIn unknown =
+    alone-keeps more last (input_line t.world) (input_line (with_more more last t.world)) (input-keeps more last t.world t.world.rest unknown)
+texts-keep more last t values (from.Var name) unknown = refl
+texts-keep more last t values (from.Value expr) unknown = refl
+
+cuts-keep : (more : List (List ℕ)) (last : Bool) (t : Turn) (upper : Bool) (bound : List (Template × List TPart)) (taken longer : Option (List (List ℕ) × World))
+    → TextsKeep more last taken longer → Keeps more last (cuts t upper bound taken) (cuts (turn_with more last t) upper bound longer)
+cuts-keep more last t upper bound None longer keeps done = cc
+cuts-keep more last t upper bound (Some taken) longer keeps done =
+    ap (cuts (turn_with more last t) upper bound) keeps
+    ∙ ap w.Done (assigns-with more last (record t { world = taken.1 }) (all_rows bound (in_case upper taken.0)))
+
+parses-keep : (more : List (List ℕ)) (last : Bool) (t : Turn) (parse : Parse) (values : List Value) (bound : Result (List (Template × List TPart)) ℕ)
+    → t.world.ended ≡ false → Keeps more last (parses_bound t parse values bound) (parses_bound (turn_with more last t) parse values bound)
+parses-keep more last t parse values (Err number) unknown = λ done. ap w.Done (raised-with more last t.world t.number number (line t))
+parses-keep more last t parse values (Ok bound) unknown =
+    cuts-keep more last t parse.upper bound (texts_from t values parse.from) (texts_from (turn_with more last t) values parse.from)
+    (texts-keep more last t values parse.from unknown)
+
+-- ---- clauses
+
+finish-keeps : (more : List (List ℕ)) (last : Bool) (t : Turn) (one : OneClause) (values : List Value) → t.world.ended ≡ false
+    → Keeps more last (finish t one values) (finish (turn_with more last t) one values)
 unfolding finish
-finish-with more ended w a activity frame frames (Say given) values = refl
-finish-with more ended w a activity frame frames (Assign name expr) values = refl
-finish-with more ended w a activity frame frames Nop values = refl
-finish-with more ended w a activity frame frames (Return given) values = ended-with more ended w a activity frame frames _
-finish-with more ended w a activity frame frames (Expose names) values = refl
-finish-with more ended w a activity frame frames (UseArg names) values = refl
-finish-with more ended w a activity frame frames (Message term) values = refl
+finish-keeps more last t (simple.Say given) values unknown = λ done. refl
+finish-keeps more last t (simple.Assign name expr) values unknown = λ done. ap w.Done (assigns-with more last t ((name, first_value values) ∷ []))
+finish-keeps more last t (simple.Message expr) values unknown = λ done. ap w.Done (assigns-with more last t ((Simple (codes "RESULT"), first_value values) ∷ []))
+finish-keeps more last t (simple.Return given) values unknown = λ done. ap w.Done (ended-with more last t.world t.number t.frame (first_value values))
+finish-keeps more last t (simple.Expose names) values unknown = λ done. ap w.Done (exposes-with more last t names t.frame.own)
+finish-keeps more last t (simple.UseArg strict parameters) values unknown = λ done. ap w.Done (assigns-with more last t (rows parameters t.frame.arguments values))
+finish-keeps more last t (simple.Parse parse) values unknown =
+    parses-keep more last t parse values (bound_all (variables_at t.world.activities t.number) t.world.pools parse.templates) unknown
+finish-keeps more last t (simple.Push given) values unknown = λ done. refl
+finish-keeps more last t (simple.Queue given) values unknown = λ done. refl
+finish-keeps more last t (simple.Drop names) values unknown = λ done. ap w.Done (assigns-with more last t (map dropped names))
+finish-keeps more last t (simple.Label name) values unknown = λ done. refl
+finish-keeps more last t (simple.SendAssign receiver part expr) values unknown = λ done. refl
+finish-keeps more last t simple.Nop values unknown = λ done. refl
+finish-keeps more last t (simple.Leave name) values unknown = λ done. refl
+finish-keeps more last t (simple.Iterate name) values unknown = λ done. refl
+finish-keeps more last t (simple.Call routine) values unknown = λ done. refl
+finish-keeps more last t (simple.CallOn trap) values unknown = λ done. refl
+finish-keeps more last t (simple.CallOff condition) values unknown = λ done. refl
+finish-keeps more last t (simple.Exit given) values unknown = λ done. refl
+finish-keeps more last t (simple.Signal label) values unknown = λ done. refl
+finish-keeps more last t (simple.SignalOn trap) values unknown = λ done. refl
+finish-keeps more last t (simple.SignalOff condition) values unknown = λ done. refl
+finish-keeps more last t (simple.Procedure names) values unknown = λ done. refl
+finish-keeps more last t (simple.Digits given) values unknown = λ done. refl
+finish-keeps more last t (simple.GuardOn given) values unknown = λ done. refl
+finish-keeps more last t (simple.GuardOff given) values unknown = λ done. refl
+finish-keeps more last t (simple.Reply given) values unknown = λ done. refl
+finish-keeps more last t (simple.Forward forward) values unknown = λ done. refl
+finish-keeps more last t (simple.RaiseSyntax number given) values unknown = λ done. refl
+finish-keeps more last t (simple.RaiseUser name given value) values unknown = λ done. refl
+finish-keeps more last t (simple.Trace setting) values unknown = λ done. refl
 
--- a clause's expressions have come to something
-settle-with : (more : List (List ℕ)) (ended : Bool) (w : World) (a : ℕ) (activity : Activity) (frame : Frame) (frames : List Frame) (clause : Clause) (found : AllFound)
-    → settle (with_more more ended w) a activity frame frames clause found ≡ with_more more ended (settle w a activity frame frames clause found)
-settle-with more ended w a activity frame frames clause (Values values) = finish-with more ended w a activity frame frames (kind_of clause) values
-settle-with more ended w a activity frame frames clause (Raises number) = raise-with more ended w a activity (frame ∷ frames) number (line_of clause)
-settle-with more ended w a activity frame frames clause (Calls sent trees) =
-    send-with more ended w a activity (partly frame clause trees) frames (line_of clause) sent
+settle-keeps : (more : List (List ℕ)) (last : Bool) (t : Turn) (one : OneClause) (found : AllFound) → t.world.ended ≡ false
+    → Keeps more last (settle t one found) (settle (turn_with more last t) one found)
+settle-keeps more last t one (AllDone values) unknown = finish-keeps more last t one values unknown
+settle-keeps more last t one (AllRaise number) unknown = λ done. ap w.Done (raised-with more last t.world t.number number (line t))
+settle-keeps more last t one (AllNoValue name) unknown = λ done. refl
+settle-keeps more last t one (AllCall pending trees) unknown =
+    λ done. ap w.Done (calls-with more last (awaits t (awaited_by one pending.awaited trees) trees) t.number (line t) pending.sent)
 
--- a message gave no value
-without_value-with : (more : List (List ℕ)) (ended : Bool) (w : World) (a : ℕ) (activity : Activity) (frame : Frame) (frames : List Frame) (clause : Clause) (trees : List Expr)
-    → without_value (with_more more ended w) a activity frame frames clause trees ≡ with_more more ended (without_value w a activity frame frames clause trees)
-without_value-with more ended w a activity frame frames clause trees =
-    cond-with more ended (needs_no_value (kind_of clause) trees) _ _ _ _ (finish-with more ended w a activity frame frames (kind_of clause) [])
-    (raise-with more ended w a activity (frame ∷ frames) 91 (line_of clause))
+stretch-keeps : (more : List (List ℕ)) (last : Bool) (t : Turn) (one : OneClause) (trees : Trees) → t.world.ended ≡ false
+    → Keeps more last (stretch t one trees) (stretch (turn_with more last t) one trees)
+unfolding comes_to
+stretch-keeps more last t one trees unknown = settle-keeps more last t one (comes_to t.world t.number t.frame trees) unknown
 
--- a stretch of a clause
-stretch-with : (more : List (List ℕ)) (ended : Bool) (w : World) (a : ℕ) (activity : Activity) (frame : Frame) (frames : List Frame) (item : Todo)
-    → stretch (with_more more ended w) a activity frame frames item ≡ with_more more ended (stretch w a activity frame frames item)
-unfolding stretch
-stretch-with more ended w a activity frame frames (Whole clause) = settle-with more ended w a activity frame frames clause _
-stretch-with more ended w a activity frame frames (Partly clause trees false) = settle-with more ended w a activity frame frames clause _
-stretch-with more ended w a activity frame frames (Partly clause trees true) = without_value-with more ended w a activity frame frames clause trees
+starts-keep : (more : List (List ℕ)) (last : Bool) (t : Turn) (one : OneClause) (number : Option ℕ) → t.world.ended ≡ false
+    → Keeps more last (starts t one number) (starts (turn_with more last t) one number)
+starts-keep more last t one None unknown = stretch-keeps more last t one (trees_of t.frame.arguments one) unknown
+starts-keep more last t one (Some number) unknown = λ done. ap w.Done (raised-with more last t.world t.number number (line t))
 
--- a frame does the first of what it has to do
-step_todo-with : (more : List (List ℕ)) (ended : Bool) (w : World) (a : ℕ) (activity : Activity) (frame : Frame) (frames : List Frame) (todo : List Todo)
-    → step_todo (with_more more ended w) a activity frame frames todo ≡ with_more more ended (step_todo w a activity frame frames todo)
-step_todo-with more ended w a activity frame frames [] = ended-with more ended w a activity frame frames None
-step_todo-with more ended w a activity frame frames (item ∷ todo) = stretch-with more ended w a activity (record frame { todo = todo }) frames item
+resumes-keep : (more : List (List ℕ)) (last : Bool) (t : Turn) (one : OneClause) (by : Resumed) → t.world.ended ≡ false
+    → Keeps more last (resumes t one by) (resumes (turn_with more last t) one by)
+resumes-keep more last t one (Left trees) unknown = stretch-keeps more last t one trees unknown
+resumes-keep more last t one Without unknown = finish-keeps more last t one [] unknown
+resumes-keep more last t one (answers.Raises number) unknown = λ done. ap w.Done (raised-with more last t.world t.number number (line t))
 
--- the first message couldn't be sent
-first_refused-with : (more : List (List ℕ)) (ended : Bool) (w : World) (a : ℕ) (activity : Activity) (message number : ℕ)
-    → first_refused (with_more more ended w) a activity message number ≡ with_more more ended (first_refused w a activity message number)
-first_refused-with more ended w a activity message number =
-    ap (λ v. raise v a activity [] number 0) (completed-with more ended w (Some message) (Failed number))
-    ∙ raise-with more ended (completed w (Some message) (Failed number)) a activity [] number 0
+goes-by-keeps : (more : List (List ℕ)) (last : Bool) (t : Turn) (state : CallState) (one : OneClause) → t.world.ended ≡ false
+    → Keeps more last (goes_by t state one) (goes_by (turn_with more last t) state one)
+goes-by-keeps more last t NoCall one unknown = starts-keep more last t one (refused t.frame one) unknown
+goes-by-keeps more last t (Awaiting how) one unknown = λ done. refl
+goes-by-keeps more last t (Answered how answer) one unknown = resumes-keep more last t one (resumed how answer t.frame.todo.trees) unknown
 
--- the first message's native method is done
-first_without-with : (more : List (List ℕ)) (ended : Bool) (w : World) (a : ℕ) (activity : Activity) (message : ℕ) (args : List (Option Value)) (answer : Option Value)
-    → first_without (with_more more ended w) a activity message args answer ≡ with_more more ended (first_without w a activity message args answer)
-first_without-with more ended w a activity message [] answer =
-    ap (λ v. given_beneath v a activity [] answer) (completed-with more ended w (Some message) (result_of answer))
-    ∙ given_beneath-with more ended (completed w (Some message) (result_of answer)) a activity [] answer
-first_without-with more ended w a activity message (arg ∷ args) answer = first_refused-with more ended w a activity message 93
+goes-keep : (more : List (List ℕ)) (last : Bool) (t : Turn) (by : Rule) → t.world.ended ≡ false
+    → Keeps more last (goes t by) (goes (turn_with more last t) by)
+goes-keep more last t (Does one) unknown = goes-by-keeps more last t t.frame.todo.call one unknown
+goes-keep more last t (Begins clauses) unknown = λ done. refl
+goes-keep more last t (Asks test one other) unknown = λ done. refl
+goes-keep more last t (Loops header test clauses) unknown = λ done. refl
+goes-keep more last t Fails unknown = λ done. refl
 
--- the first message comes to a method
-first_performed-with : (more : List (List ℕ)) (ended : Bool) (w : World) (a : ℕ) (activity : Activity) (message : ℕ) (sending : Sending) (method : Method)
-    → first_performed (with_more more ended w) a activity message sending method ≡ with_more more ended (first_performed w a activity message sending method)
-first_performed-with more ended w a activity message sending (OfClass class method) = refl
-first_performed-with more ended w a activity message sending Init = first_without-with more ended w a activity message sending.args None
-first_performed-with more ended w a activity message sending New = first_refused-with more ended w a activity message 97
-first_performed-with more ended w a activity message sending AsString = first_refused-with more ended w a activity message 97
-first_performed-with more ended w a activity message sending Start = first_refused-with more ended w a activity message 97
-first_performed-with more ended w a activity message sending StartAgain = first_refused-with more ended w a activity message 97
-first_performed-with more ended w a activity message sending NoMethod = first_refused-with more ended w a activity message 97
+-- ---- steps
 
--- the first message is that of a Message
-first_sent_by-with : (more : List (List ℕ)) (ended : Bool) (w : World) (a : ℕ) (activity : Activity) (message : ℕ) (sending : Option Sending)
-    → first_sent_by (with_more more ended w) a activity message sending ≡ with_more more ended (first_sent_by w a activity message sending)
-first_sent_by-with more ended w a activity message None = refl
-first_sent_by-with more ended w a activity message (Some sending) =
-    first_performed-with more ended w a activity message sending (method_for w.program.classes w.objects sending.target sending.name)
+items-keep : (more : List (List ℕ)) (last : Bool) (v : World) (a : ℕ) (frame : Frame Todo) (items : List Item) → v.ended ≡ false
+    → Keeps more last (step_items v a frame items) (step_items (with_more more last v) a frame items)
+items-keep more last v a frame [] unknown = λ done. ap w.Done (ended-with more last v a frame None)
+items-keep more last v a frame (item ∷ rest) unknown = goes-keep more last (turn v a frame item rest) (rule_of item) unknown
 
--- the first message is sent
-first_sent-with : (more : List (List ℕ)) (ended : Bool) (w : World) (a : ℕ) (activity : Activity) (message : ℕ)
-    → first_sent (with_more more ended w) a activity message ≡ with_more more ended (first_sent w a activity message)
-unfolding first_sent
-first_sent-with more ended w a activity message = first_sent_by-with more ended w a activity message (sending_at w.objects message)
+if-keeps : (more : List (List ℕ)) (last : Bool) (test : Bool) (one other longer : Stepped) (next : World) → one ≡ w.Done next
+    → Keeps more last other longer
+    → Keeps more last (if test then one else other) (if test then w.Done (with_more more last next) else longer)
+if-keeps more last true one other longer next is keeps done = sym (ap (stepped_with more last) is)
+if-keeps more last false one other longer next is keeps done = keeps done
 
--- an activity without frames takes its turn
-step_begun-with : (more : List (List ℕ)) (ended : Bool) (w : World) (a : ℕ) (activity : Activity) (wait : Wait)
-    → step_begun (with_more more ended w) a activity wait ≡ with_more more ended (step_begun w a activity wait)
-step_begun-with more ended w a activity Nothing = refl
-step_begun-with more ended w a activity (First message) = first_sent-with more ended w a (record activity { wait = Nothing }) message
-step_begun-with more ended w a activity (ForMessage message) = refl
-step_begun-with more ended w a activity AtGuard = refl
+frame-keeps : (more : List (List ℕ)) (last : Bool) (v : World) (a : ℕ) (frame : Frame Todo) → v.ended ≡ false
+    → Keeps more last (step_frame v a frame) (step_frame (with_more more last v) a frame)
+frame-keeps more last v a frame unknown =
+    if-keeps more last frame.asks (w.Done (takes v a frame)) (step_items v a frame (past_labels frame.todo.items))
+    (step_items (with_more more last v) a frame (past_labels frame.todo.items)) (takes v a frame) refl
+    (items-keep more last v a frame (past_labels frame.todo.items) unknown)
 
--- the top frame takes its turn
-step_frames-with : (more : List (List ℕ)) (ended : Bool) (w : World) (a : ℕ) (activity : Activity) (frames : List Frame)
-    → step_frames (with_more more ended w) a activity frames ≡ with_more more ended (step_frames w a activity frames)
-step_frames-with more ended w a activity [] = step_begun-with more ended w a activity activity.wait
-step_frames-with more ended w a activity (frame ∷ frames) = cond-with more ended frame.asks _ _ _ _ refl (step_todo-with more ended w a activity frame frames frame.todo)
+frames-keep : (more : List (List ℕ)) (last : Bool) (v : World) (a : ℕ) (frames : List (Frame Todo)) → v.ended ≡ false
+    → Keeps more last (step_frames v a frames) (step_frames (with_more more last v) a frames)
+frames-keep more last v a [] unknown = λ done. ap w.Done (first-of-with more last v a (first_message (activity_at v.activities a)))
+frames-keep more last v a (frame ∷ frames) unknown = frame-keeps more last v a frame unknown
 
--- an activity takes its turn
-step_activity-with : (more : List (List ℕ)) (ended : Bool) (w : World) (a : ℕ) (activity : Option Activity)
-    → step_activity (with_more more ended w) a activity ≡ with_more more ended (step_activity w a activity)
-step_activity-with more ended w a None = refl
-step_activity-with more ended w a (Some activity) = step_frames-with more ended w a activity activity.frames
+pub step-with : (more : List (List ℕ)) (last : Bool) (v : World) (a : ℕ) → v.ended ≡ false → is_done (step v a) ≡ true
+    → step (with_more more last v) a ≡ stepped_with more last (step v a)
+step-with more last v a unknown = frames-keep more last (counted v) a (frames_at v.activities a) unknown
 
--- a step with more input
-pub step-with : (more : List (List ℕ)) (ended : Bool) (w : World) (a : ℕ)
-    → step (with_more more ended w) a ≡ stepped_with more ended (step w a)
-step-with more ended w a = ap Done (step_activity-with more ended (counted w) a (activity_at w a))
+after-done : (more : List (List ℕ)) (last : Bool) (v : World) (stepped : Stepped) → is_done stepped ≡ true
+    → world_after (with_more more last v) (stepped_with more last stepped) ≡ with_more more last (world_after v stepped)
+after-done more last v (w.Done next) done = refl
+after-done more last v WantsLine done = cc
 
--- the world after a step with more input
-world_after-with : (more : List (List ℕ)) (ended : Bool) (w : World) (s : Stepped)
-    → world_after (with_more more ended w) (stepped_with more ended s) ≡ with_more more ended (world_after w s)
-world_after-with more ended w (Done next) = refl
-world_after-with more ended w WantsLine = refl
-
--- a step is taken as well with more input
-is_done-with : (more : List (List ℕ)) (ended : Bool) (s : Stepped) → is_done (stepped_with more ended s) ≡ is_done s
-is_done-with more ended (Done next) = refl
-is_done-with more ended WantsLine = refl
-
--- a pick with more input
-pub after-with : (more : List (List ℕ)) (ended : Bool) (w : World) (a : ℕ)
-    → after (with_more more ended w) a ≡ with_more more ended (after w a)
-after-with more ended w a =
-    ap (world_after (with_more more ended w)) (step-with more ended w a) ∙ world_after-with more ended w (step w a)
-
--- a run with more input
-pub run-with : (more : List (List ℕ)) (ended : Bool) (w : World) (picks : List ℕ)
-    → run (with_more more ended w) picks ≡ with_more more ended (run w picks)
-run-with more ended w [] = refl
-run-with more ended w (a ∷ picks) = ap (λ v. run v picks) (after-with more ended w a) ∙ run-with more ended (after w a) picks
+pub after-with : (more : List (List ℕ)) (last : Bool) (v : World) (a : ℕ) → v.ended ≡ false → is_done (step v a) ≡ true
+    → after (with_more more last v) a ≡ with_more more last (after v a)
+after-with more last v a unknown done =
+    ap (world_after (with_more more last v)) (step-with more last v a unknown done) ∙ after-done more last v (step v a) done
 
 -- which activities are enabled doesn't depend on input
-enabled-with : (more : List (List ℕ)) (ended : Bool) (w : World) (a : ℕ) → enabled (with_more more ended w) a ≡ enabled w a
+enabled-with : (more : List (List ℕ)) (last : Bool) (v : World) (a : ℕ) → enabled (with_more more last v) a ≡ enabled v a
 unfolding holder_before
-enabled-with more ended w a = refl
+enabled-with more last v a = refl
 
 -- round robin doesn't depend on input
-robin-with : (more : List (List ℕ)) (ended : Bool) (w : World) (last : ℕ) → robin (with_more more ended w) last ≡ robin w last
+robin-with : (more : List (List ℕ)) (last : Bool) (v : World) (before : ℕ) → robin (with_more more last v) before ≡ robin v before
 unfolding holder_before
-robin-with more ended w last = refl
+robin-with more last v before = refl
 
 -- how a world stands doesn't depend on input
-pub end-with : (more : List (List ℕ)) (ended : Bool) (w : World) → end (with_more more ended w) ≡ end w
+pub end-with : (more : List (List ℕ)) (last : Bool) (v : World) → end (with_more more last v) ≡ end v
 unfolding holder_before
-end-with more ended w = refl
+end-with more last v = refl
 
--- which picks may be taken doesn't depend on input
-pub may_pick-with : (more : List (List ℕ)) (ended : Bool) (w : World) (a : ℕ) → may_pick (with_more more ended w) a ≡ may_pick w a
-may_pick-with more ended w a =
-    ap (λ can. can && (is_going (end (with_more more ended w)) && is_done (step (with_more more ended w) a))) (enabled-with more ended w a)
-    ∙ ap (λ e. enabled w a && (is_going e && is_done (step (with_more more ended w) a))) (end-with more ended w)
-    ∙ ap (λ done. enabled w a && (is_going (end w) && done)) (ap is_done (step-with more ended w a) ∙ is_done-with more ended (step w a))
+both-so : (one two : Bool) → one ≡ true → two ≡ true → (one && two) ≡ true
+both-so true two first second = second
+both-so false two first second = first
 
--- picks are as legal with more input
-pub legal-with : (more : List (List ℕ)) (ended : Bool) (w : World) (picks : List ℕ) → legal (with_more more ended w) picks ≡ legal w picks
-legal-with more ended w [] = refl
-legal-with more ended w (a ∷ picks) =
-    ap (λ may. may && legal (after (with_more more ended w) a) picks) (may_pick-with more ended w a)
-    ∙ ap (λ v. may_pick w a && legal v picks) (after-with more ended w a)
-    ∙ ap (λ later. may_pick w a && later) (legal-with more ended (after w a) picks)
+all-so : (one two three : Bool) → one ≡ true → two ≡ true → three ≡ true → (one && (two && three)) ≡ true
+all-so true true three first second third = third
+all-so true false three first second third = second
+all-so false two three first second third = first
+
+is_done-with : (more : List (List ℕ)) (last : Bool) (stepped : Stepped) → is_done stepped ≡ true → is_done (stepped_with more last stepped) ≡ true
+is_done-with more last (w.Done next) done = refl
+is_done-with more last WantsLine done = cc
+
+-- a pick that may be taken may be taken with more input
+pub may_pick-with : (more : List (List ℕ)) (last : Bool) (v : World) (a : ℕ) → v.ended ≡ false → IsTrue (may_pick v a) → IsTrue (may_pick (with_more more last v) a)
+may_pick-with more last v a unknown may =
+    let rest : (is_going (end v) && is_done (step v a)) ≡ true = second_so (enabled v a) _ may in
+    let done : is_done (step v a) ≡ true = second_so (is_going (end v)) _ rest in
+    all-so (enabled (with_more more last v) a) (is_going (end (with_more more last v))) (is_done (step (with_more more last v) a))
+    (enabled-with more last v a ∙ first_so (enabled v a) _ may)
+    (ap is_going (end-with more last v) ∙ first_so (is_going (end v)) _ rest)
+    (ap is_done (step-with more last v a unknown done) ∙ is_done-with more last (step v a) done)
+
+pub done-of : (v : World) (a : ℕ) → IsTrue (may_pick v a) → is_done (step v a) ≡ true
+done-of v a may = second_so (is_going (end v)) _ (second_so (enabled v a) _ may)
+
+-- a step leaves the end of input as known as it was
+ended-by : (v : World) (a : ℕ) → v.ended ≡ false → (after v a).ended ≡ false
+ended-by v a unknown = after-ended v a ∙ unknown
+
+-- picks are legal with more input, and lead to the same world but for it
+pub more-input-keeps-runs : (more : List (List ℕ)) (last : Bool) (v : World) (picks : List ℕ)
+    → v.ended ≡ false → IsTrue (legal v picks)
+    → IsTrue (legal (with_more more last v) picks) × (run (with_more more last v) picks ≡ with_more more last (run v picks))
+more-input-keeps-runs more last v [] unknown is_legal = (refl, refl)
+more-input-keeps-runs more last v (a ∷ picks) unknown is_legal =
+    let may : IsTrue (may_pick v a) = first_so (may_pick v a) _ is_legal in
+    let same : after (with_more more last v) a ≡ with_more more last (after v a) = after-with more last v a unknown (done-of v a may) in
+    let later : IsTrue (legal (with_more more last (after v a)) picks) × (run (with_more more last (after v a)) picks ≡ with_more more last (run (after v a) picks)) =
+    more-input-keeps-runs more last (after v a) picks (ended-by v a unknown) (second_so (may_pick v a) _ is_legal) in (
+      both-so (may_pick (with_more more last v) a) _ (may_pick-with more last v a unknown may) (subst (λ (u : World). IsTrue (legal u picks)) (sym same) later.0),
+      ap (λ (u : World). run u picks) same ∙ later.1,
+    )
 
 -- picks in a circle are in a circle with more input
-pub serial-with : (more : List (List ℕ)) (ended : Bool) (last : ℕ) (w : World) (picks : List ℕ)
-    → IsSerialAfter last w picks → IsSerialAfter last (with_more more ended w) picks
-serial-with more ended last w [] serial = tt
-serial-with more ended last w (a ∷ picks) serial = (
-  robin-with more ended w last ∙ serial.0,
-  subst (λ (v : World). IsSerialAfter a v picks) (sym (after-with more ended w a)) (serial-with more ended a (after w a) picks serial.1),
-)
-
--- the law of runs with more input
-pub more-input-keeps-runs : (more : List (List ℕ)) (ended : Bool) (w : World) (picks : List ℕ)
-    → w.ended ≡ false → IsTrue (legal w picks)
-    → IsTrue (legal (with_more more ended w) picks) × (run (with_more more ended w) picks ≡ with_more more ended (run w picks))
-more-input-keeps-runs more ended w picks open_end is_legal = (legal-with more ended w picks ∙ is_legal, run-with more ended w picks)
-
--- the law of the circle with more input
-pub more-input-keeps-the-circle : (more : List (List ℕ)) (ended : Bool) (last : ℕ) (w : World) (picks : List ℕ)
-    → w.ended ≡ false → IsSerialAfter last w picks → IsSerialAfter last (with_more more ended w) picks
-more-input-keeps-the-circle more ended last w picks open_end serial = serial-with more ended last w picks serial
+pub more-input-keeps-the-circle : (more : List (List ℕ)) (last : Bool) (before : ℕ) (v : World) (picks : List ℕ)
+    → v.ended ≡ false → IsTrue (legal v picks) → IsSerialAfter before v picks → IsSerialAfter before (with_more more last v) picks
+more-input-keeps-the-circle more last before v [] unknown is_legal serial = tt
+more-input-keeps-the-circle more last before v (a ∷ picks) unknown is_legal serial =
+    let may : IsTrue (may_pick v a) = first_so (may_pick v a) _ is_legal in
+    let same : after (with_more more last v) a ≡ with_more more last (after v a) = after-with more last v a unknown (done-of v a may) in (
+      robin-with more last v before ∙ serial.0,
+      subst (λ (u : World). IsSerialAfter a u picks) (sym same)
+          (more-input-keeps-the-circle more last a (after v a) picks (ended-by v a unknown) (second_so (may_pick v a) _ is_legal) serial.1),
+    )
 
 -- a serial run is one with more input too
-pub SerialRun-with : (more : List (List ℕ)) (ended : Bool) (from : World) (picks : List ℕ) (to : World)
-    → SerialRun from picks to → SerialRun (with_more more ended from) picks (with_more more ended to)
-SerialRun-with more ended from picks to so_far = record {
-  legal = legal-with more ended from picks ∙ so_far.legal;
-  leads = run-with more ended from picks ∙ ap (with_more more ended) so_far.leads;
-  serial = serial-with more ended 0 from picks so_far.serial;
+pub SerialRun-with : (more : List (List ℕ)) (last : Bool) (from : World) (picks : List ℕ) (to : World) → from.ended ≡ false
+    → SerialRun from picks to → SerialRun (with_more more last from) picks (with_more more last to)
+SerialRun-with more last from picks to unknown so_far = record {
+  legal = (more-input-keeps-runs more last from picks unknown so_far.legal).0;
+  leads = (more-input-keeps-runs more last from picks unknown so_far.legal).1 ∙ ap (with_more more last) so_far.leads;
+  serial = more-input-keeps-the-circle more last 0 from picks unknown so_far.legal so_far.serial;
 }

@@ -1,46 +1,44 @@
--- How a frame ends, and where its value goes.
-use Rattle.std.specs.Prelude.{ℕ, true, false, List, [], ◌∷◌, Option, None, Some, map, if◌then◌else◌}
+-- Frames that end.
+use Rattle.std.specs.Prelude.{ℕ, ◌==◌, List, [], ◌∷◌, drop, Option, None, Some, option_map, if◌then◌else◌}
+use Rattle.rx_tree.specs.declared.activity.Outcome.TheVariants as outcome
 use Rattle.rx_tree.specs.declared.value.Value.{Value}
 use Rattle.rx_tree.specs.declared.value.Value.TheVariants.{Ref}
-use Rattle.rx_tree.specs.Frame.{Frame, Owner, Todo, Whole, Partly}
-use Rattle.rx_tree.specs.World.{World, Activity, Over}
-use Rattle.rx_machine.specs.Enabled.{with_activity}
-use Rattle.rx_machine.specs.Messages.{completed, result_of}
-use Rattle.rx_machine.specs.Evaluation.{fill}
+use Rattle.rx_frames.specs.declared.parts.Own.{Own}
+use Rattle.rx_frames.specs.Frames.{Frame}
+use Rattle.rx_frames.specs.Activities.{Activity, frames_at, with_change_at, with_frames}
+use Rattle.rx_native.specs.Outcomes.{or_nil}
+use Rattle.rx_sends.specs.Sending.{answered_above, completed}
+use Rattle.rx_machine.specs.Todo.{Todo, by_clauses}
+use Rattle.rx_machine.specs.World.{World, Ending, NoValue, Given}
 
--- The activity has these frames.
-abbrev pub with_frames : World → ℕ → Activity → List Frame → World
-with_frames w a activity frames = with_activity w a (record activity { frames = frames })
+-- the activity without its top frame: it is over where no frame is left
+abbrev pub without_top : Activity Todo → Activity Todo
+without_top activity = with_frames (drop 1 activity.frames) activity
 
--- The answer of a call, or that it gave no value, stands in the place of the hole.
-abbrev pub given_to : Option Value → Todo → Todo
-given_to answer (Whole clause) = Whole clause
-given_to None (Partly clause trees valueless) = Partly clause trees true
-given_to (Some value) (Partly clause trees valueless) = Partly clause (map (fill value) trees) false
+-- INIT that NEW sent gives the object, whatever it ends with
+abbrev pub given_by : Frame Todo → Option Value → Option Value
+given_by frame value = if frame.made then option_map (λ (own : Own). Ref own.object) frame.own else value
 
-abbrev pub answered_todo : Option Value → List Todo → List Todo
-answered_todo answer [] = []
-answered_todo answer (item ∷ todo) = given_to answer item ∷ todo
+abbrev pub ending_of : Option Value → Ending
+ending_of None = NoValue
+ending_of (Some value) = Given value
 
--- A frame that called has its answer.
-abbrev pub answered : Option Value → Frame → Frame
-answered answer frame = record frame { todo = answered_todo answer frame.todo }
+-- how the main program ended, once this activity is over with a value or without one
+abbrev pub main_after : World → ℕ → Option Value → Ending
+main_after w a value = if a == 1 then ending_of value else w.main
 
-abbrev pub object_of : Option Owner → Option Value
-object_of None = None
-object_of (Some owner) = Some (Ref owner.object)
+-- the frame beneath has the value, if there is one; else the activity is over
+abbrev pub handed : World → ℕ → Option Value → List (Frame Todo) → World
+handed w a value [] = record w { main = main_after w a value }
+handed w a value (frame ∷ frames) = record w { activities = answered_above (by_clauses w.program) w.activities a value }
 
--- What an ended frame gives: its value, or its object where NEW began it as INIT.
-abbrev pub gives : Frame → Option Value → Option Value
-gives frame value = if frame.made then object_of frame.own else value
-
--- What ended gives this to the frames beneath. An activity without frames is over.
-abbrev pub given_beneath : World → ℕ → Activity → List Frame → Option Value → World
-given_beneath w a activity [] answer = with_activity w a (record activity { state = Over; frames = [] })
-given_beneath w a activity (frame ∷ frames) answer = with_frames w a activity (answered answer frame ∷ frames)
-
--- The frame on top of these has ended with this value, or without one. What it reserved it reserves no longer. Its
--- Message, where it has one, is complete.
-unfoldable pub ended : World → ℕ → Activity → Frame → List Frame → Option Value → World
-ended w a activity frame frames value =
-    given_beneath (completed w frame.completes (result_of (gives frame value))) a activity frames (gives frame value)
+-- The frame on top ends, and gives back its reservation. It completes its Message, which has `.nil` where the frame gives no value, and
+-- gives its value to the frame beneath.
+unfoldable pub ended : World → ℕ → Frame Todo → Option Value → World
+ended w a frame value =
+    let given = given_by frame value in
+    let after = record w {
+      objects = completed w.objects frame.completes (outcome.Given (or_nil given));
+      activities = with_change_at w.activities a without_top;
+    } in
+    handed after a given (frames_at after.activities a)

@@ -13,7 +13,4 @@ pub mod StopWords
 pub mod Operators
 pub mod Terms
 pub mod Expressions
-pub mod Valid
 pub mod Object
-pub mod Frame
-pub mod World

@@ -1,14 +1,7 @@
--- Objects, and the pools of their variables.
+-- Objects, and what they hold.
 use Rattle.std.specs.Prelude.{ℕ, Bool, List, Option}
 use Rattle.rx_tree.specs.declared.value.Value.{Value}
-use Rattle.rx_tree.specs.declared.name.Derived.{Derived}
-use Rattle.rx_tree.specs.declared.class.Scope.{Scope}
 use Rattle.rx_tree.specs.declared.activity.Outcome.{Outcome}
-
--- A variable with its value.
-pub record Row : Type 0 where
-  pub name : Derived
-  pub value : Value
 
 -- What a Message object sends, and what came of it: `used` once it was sent or is to be sent, and the activities that
 -- become live when it is complete.
@@ -39,17 +32,3 @@ pub data Contents : Type 0 where
 pub record Object : Type 0 where
   pub class : ℕ
   pub contents : Contents
-
--- A variable of a pool that guards may watch, a simple one or a stem: its number over all pools, from 0 in order of
--- making, and how often it was assigned or dropped.
-pub record Cell : Type 0 where
-  pub name : Derived
-  pub number : ℕ
-  pub changes : ℕ
-
--- The variables of an object that the methods of one scope expose.
-pub record Pool : Type 0 where
-  pub object : ℕ
-  pub scope : Scope
-  pub rows : List Row
-  pub cells : List Cell

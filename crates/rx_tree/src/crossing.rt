@@ -2,14 +2,12 @@
 
 use crate::activity::{Caught, Outcome};
 use crate::expr::Expr;
-use crate::line::Package;
 use crate::name::Derived;
 use crate::note::Note;
 use crate::shared::Shared;
 use crate::text::Text;
 use crate::token::Token;
 use crate::value::Value;
-use std::sync::Arc;
 
 fn crosses_threads<T: Send + Sync>(_value: &T) {}
 
@@ -56,9 +54,4 @@ pub fn arguments_cross(arguments: &Shared<Option<Value>>) {
 /// A note may be sent and shared.
 pub fn note_crosses(note: &Note) {
     crosses_threads(note);
-}
-
-/// A program that several owners share may be sent and shared.
-pub fn package_crosses(program: &Arc<Package>) {
-    crosses_threads(program);
 }

@@ -1,7 +1,7 @@
-//! The values and trees of a program, and the records of the machine that runs it.
+//! The values of a program and the trees of its expressions, and the small parts of activities, frames and objects.
 //!
-//! A tree is plain data: contracts see a text as its bytes and a list as a list. The records of the machine stand in
-//! `specs/` alone: `World`, `Frame` and `Object` are what every statement on runs speaks of.
+//! A tree is plain data: contracts see a text as its bytes and a list as a list. What an object holds stands in
+//! `specs/Object.antt` alone.
 #![tactic(auto)]
 
 mod activity;
@@ -9,11 +9,9 @@ mod class;
 mod crossing;
 mod equality;
 mod expr;
-pub mod line;
 mod name;
 mod nesting;
 mod note;
-mod sent;
 mod shared;
 mod steps;
 mod stops;
@@ -25,12 +23,11 @@ pub use activity::{Awaited, Caught, Condition, FrameKind, Outcome, TraceSetting}
 pub use class::{ClassDef, MethodDef, Scope};
 pub use crossing::{
     arguments_cross, caught_crosses, derived_crosses, expr_crosses, note_crosses, outcome_crosses,
-    package_crosses, text_crosses, token_crosses, value_crosses,
+    text_crosses, token_crosses, value_crosses,
 };
 pub use expr::{Expr, SendPart};
 pub use name::{Derived, Name, Part, Place};
 pub use note::Note;
-pub use sent::Sent;
 pub use shared::Shared;
 pub use steps::Steps;
 pub use stops::Stops;

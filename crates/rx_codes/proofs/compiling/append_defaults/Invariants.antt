@@ -1,6 +1,6 @@
 use Rattle.std.proofs.Common.{◌≡◌, ◌++◌, drop}
 use Rattle.rx_eval.specs.Places.{trees_of}
-use Rattle.rx_world.specs.Arguments.{defaults}
+use Rattle.rx_machine.specs.Arguments.{defaults}
 use Rattle.rx_codes.proofs.compiling.append_defaults.Given as goal
 
 abbrev pub invariant-loop-place : goal.invariant-loop-place

@@ -1,5 +1,5 @@
 use Rattle.std.proofs.Common.{◌≡◌, ◌+◌, drop, map}
-use Rattle.rx_world.specs.Scenes.{symbols_from}
+use Rattle.rx_machine.specs.Scenes.{symbols_from}
 use Rattle.rx_codes.proofs.fixing.add_symbols.Given as goal
 
 abbrev pub invariant-loop-place : goal.invariant-loop-place

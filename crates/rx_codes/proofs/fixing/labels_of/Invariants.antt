@@ -1,5 +1,5 @@
 use Rattle.std.proofs.Common.{◌≡◌, [], drop}
-use Rattle.rx_world.specs.Scenes.{labels_from}
+use Rattle.rx_machine.specs.Scenes.{labels_from}
 use Rattle.rx_codes.proofs.fixing.labels_of.Given as goal
 
 abbrev pub invariant-loop-clause : goal.invariant-loop-clause

@@ -1,5 +1,5 @@
 use Rattle.std.proofs.Common.{◌≡◌, ◌+◌, drop, map}
-use Rattle.rx_world.specs.Scenes.{class_name, symbols_from}
+use Rattle.rx_machine.specs.Scenes.{class_name, symbols_from}
 use Rattle.rx_codes.specs.Codes.{symbols_for}
 use Rattle.rx_codes.proofs.fixing.symbols_of.Given as goal
 

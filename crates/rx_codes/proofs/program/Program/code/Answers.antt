@@ -2,7 +2,7 @@ use Rattle.std.proofs.Common.{◌≡◌, ◌∷◌, ◌++◌, [], slice_get, opt
 use Rattle.std.specs.Arc.{arc_value}
 use Rattle.rx_flow.specs.Kept.{all_kept}
 use Rattle.rx_eval.specs.Places.{trees_of}
-use Rattle.rx_world.specs.Todo.{clauses_in}
+use Rattle.rx_machine.specs.Todo.{clauses_in}
 use Rattle.rx_codes.specs.Codes.{done_by, trees_by}
 use Rattle.rx_codes.specs.Programs.{coded_in}
 use Rattle.rx_codes.proofs.ProgramLemmas.{clauses_are}

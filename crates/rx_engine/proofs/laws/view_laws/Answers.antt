@@ -1,5 +1,0 @@
-use Rattle.rx_engine.proofs.ReadingLemmas.{body-is, code-is, reading-is}
-use Rattle.rx_engine.proofs.laws.view_laws.Goals as goal
-
-pub returns : goal.returns
-returns c = record { reading = reading-is; code = code-is; body = body-is }

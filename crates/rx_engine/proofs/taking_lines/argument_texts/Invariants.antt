@@ -1,6 +1,0 @@
-use Rattle.std.proofs.Common.{◌≡◌, map, take}
-use Rattle.rx_world.specs.Templates.{argument_text}
-use Rattle.rx_engine.proofs.taking_lines.argument_texts.Given as goal
-
-abbrev pub invariant-loop-argument : goal.invariant-loop-argument
-invariant-loop-argument l = l.texts ≡ map argument_text (take l.argument-index l.arguments)

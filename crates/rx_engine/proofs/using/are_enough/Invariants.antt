@@ -1,7 +1,0 @@
-use Rattle.std.proofs.Common.{◌≡◌, drop}
-use Rattle.rx_world.specs.Arguments as spec
-use Rattle.rx_engine.proofs.using.are_enough.Given as goal
-
-abbrev pub invariant-loop-parameter : goal.invariant-loop-parameter
-invariant-loop-parameter l =
-    spec.are_enough l.parameters l.initial.args ≡ spec.are_enough (drop l.parameter-index l.parameters) l.args

@@ -1,6 +1,0 @@
-pub mod Rows
-pub mod Kept
-pub mod Entries
-pub mod Pools
-pub mod Names
-pub mod Program

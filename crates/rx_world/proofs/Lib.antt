@@ -1,9 +1,0 @@
-pub mod GrowthLemmas
-pub mod RunLemmas
-pub mod CircleLemmas
-pub mod StuckLemmas
-pub mod InputLemmas
-pub mod HoldLemmas
-pub mod ChangeLemmas
-pub mod SoundLemmas
-pub mod BuiltLemmas

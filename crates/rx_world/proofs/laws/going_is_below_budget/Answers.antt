@@ -1,5 +1,0 @@
-use Rattle.rx_world.proofs.RunLemmas.{going-below}
-use Rattle.rx_world.proofs.laws.going_is_below_budget.Goals as goal
-
-pub returns : goal.returns
-returns c = record { law = going-below }
