@@ -47,13 +47,15 @@ use Rattle.rx_machine.specs.Answers.{Resumed, Left, Without, awaited_by, resumed
 use Rattle.rx_machine.specs.Clauses.{finish, refused, trees_of}
 use Rattle.rx_machine.specs.Step.{goes, goes_by, resumes, rule_of, settle, starts, step, step_frame, step_frames, step_items, turn}
 use Rattle.rx_machine.specs.Runs.{after, is_done, world_after}
-use Rattle.rx_machine.specs.Laws.{KeepsProgram}
+use Rattle.rx_machine.specs.Laws.{KeepsProgram, NoLineComes}
 
 -- The program, its argument and its budget stay; what was said and noted stays said and noted; the steps are the same.
 pub record Grows (old new : World) : Type 0 where
   pub keeps : KeepsProgram old new
   pub steps : new.steps ≡ old.steps
   pub ended : new.ended ≡ old.ended
+  -- no line comes of itself
+  pub rest : old.rest ≡ [] → new.rest ≡ []
   pub said : List ℕ
   pub output : new.output ≡ old.output ++ said
   pub noted : List Note
@@ -61,11 +63,12 @@ pub record Grows (old new : World) : Type 0 where
 
 -- nothing of that has changed
 same : (old new : World) → new.program ≡ old.program → new.arg ≡ old.arg → new.budget ≡ old.budget → new.steps ≡ old.steps
-    → new.ended ≡ old.ended → new.output ≡ old.output → new.notes ≡ old.notes → Grows old new
-same old new program arg budget steps ended output notes = record {
+    → new.ended ≡ old.ended → new.output ≡ old.output → new.notes ≡ old.notes → new.rest ≡ old.rest → Grows old new
+same old new program arg budget steps ended output notes rest = record {
   keeps = record { program = program; arg = arg; budget = budget };
   steps = steps;
   ended = ended;
+  rest = λ none. rest ∙ none;
   said = [];
   output = output ∙ sym (append-nil old.output);
   noted = [];
@@ -81,6 +84,7 @@ then_grows old mid new first second = record {
   };
   steps = second.steps ∙ first.steps;
   ended = second.ended ∙ first.ended;
+  rest = λ none. second.rest (first.rest none);
   said = first.said ++ second.said;
   output = second.output ∙ ap (λ (bytes : List ℕ). bytes ++ second.said) first.output ∙ append_assoc old.output first.said second.said;
   noted = first.noted ++ second.noted;
@@ -94,12 +98,12 @@ StepGrows old WantsLine = Unit {0}
 -- ---- frames that end, and errors
 
 handed-grows : (old : World) (a : ℕ) (value : Option Value) (frames : List (Frame Todo)) → Grows old (handed old a value frames)
-handed-grows old a value [] = same old _ refl refl refl refl refl refl refl
-handed-grows old a value (frame ∷ frames) = same old _ refl refl refl refl refl refl refl
+handed-grows old a value [] = same old _ refl refl refl refl refl refl refl refl
+handed-grows old a value (frame ∷ frames) = same old _ refl refl refl refl refl refl refl refl
 
 ended-grows : (old : World) (a : ℕ) (frame : Frame Todo) (value : Option Value) → Grows old (ended old a frame value)
 unfolding ended
-ended-grows old a frame value = then_grows old _ _ (same old _ refl refl refl refl refl refl refl) (handed-grows _ a (given_by frame value) _)
+ended-grows old a frame value = then_grows old _ _ (same old _ refl refl refl refl refl refl refl refl) (handed-grows _ a (given_by frame value) _)
 
 raised-grows : (old : World) (a number line : ℕ) → Grows old (raised old a number line)
 unfolding raised
@@ -107,6 +111,7 @@ raised-grows old a number line = record {
   keeps = record { program = refl; arg = refl; budget = refl };
   steps = refl;
   ended = refl;
+  rest = λ none. none;
   said = [];
   output = sym (append-nil old.output);
   noted = Error number line a ∷ [];
@@ -116,9 +121,9 @@ raised-grows old a number line = record {
 -- ---- messages
 
 sending-grows : (old : World) (a line : ℕ) (sending : Sending Todo) → Grows old (sending_of old a line sending)
-sending-grows old a line (Done parts) = same old _ refl refl refl refl refl refl refl
-sending-grows old a line (Raises number parts) = then_grows old (with_parts old parts) _ (same old _ refl refl refl refl refl refl refl) (raised-grows (with_parts old parts) a number line)
-sending-grows old a line (NoMethod parts) = then_grows old (with_parts old parts) _ (same old _ refl refl refl refl refl refl refl) (raised-grows (with_parts old parts) a _ line)
+sending-grows old a line (Done parts) = same old _ refl refl refl refl refl refl refl refl
+sending-grows old a line (Raises number parts) = then_grows old (with_parts old parts) _ (same old _ refl refl refl refl refl refl refl refl) (raised-grows (with_parts old parts) a number line)
+sending-grows old a line (NoMethod parts) = then_grows old (with_parts old parts) _ (same old _ refl refl refl refl refl refl refl refl) (raised-grows (with_parts old parts) a _ line)
 
 sends-grows : (old : World) (a line : ℕ) (one : Sent) → Grows old (sends old a line one)
 unfolding sends
@@ -126,19 +131,19 @@ sends-grows old a line one = sending-grows old a line (sent (by_clauses old.prog
 
 calls-grow : (old : World) (a line : ℕ) (one : Called) → Grows old (calls old a line one)
 calls-grow old a line (call.Message target name above args) = sends-grows old a line (message target name above args)
-calls-grow old a line (call.Label name args) = same old _ refl refl refl refl refl refl refl
-calls-grow old a line (call.Routine name args) = same old _ refl refl refl refl refl refl refl
+calls-grow old a line (call.Label name args) = same old _ refl refl refl refl refl refl refl refl
+calls-grow old a line (call.Routine name args) = same old _ refl refl refl refl refl refl refl refl
 
 first-grows : (old : World) (a : ℕ) (contents : Contents) → Grows old (first_sent old a contents)
 first-grows old a (Message sending) = sends-grows old a 0 (message sending.target sending.name None sending.args)
-first-grows old a Plain = same old _ refl refl refl refl refl refl refl
-first-grows old a ClassObject = same old _ refl refl refl refl refl refl refl
-first-grows old a (Places places) = same old _ refl refl refl refl refl refl refl
-first-grows old a (Line items) = same old _ refl refl refl refl refl refl refl
-first-grows old a (Names entries) = same old _ refl refl refl refl refl refl refl
+first-grows old a Plain = same old _ refl refl refl refl refl refl refl refl
+first-grows old a ClassObject = same old _ refl refl refl refl refl refl refl refl
+first-grows old a (Places places) = same old _ refl refl refl refl refl refl refl refl
+first-grows old a (Line items) = same old _ refl refl refl refl refl refl refl refl
+first-grows old a (Names entries) = same old _ refl refl refl refl refl refl refl refl
 
 first-of-grows : (old : World) (a : ℕ) (number : Option ℕ) → Grows old (first_of old a number)
-first-of-grows old a None = same old _ refl refl refl refl refl refl refl
+first-of-grows old a None = same old _ refl refl refl refl refl refl refl refl
 first-of-grows old a (Some number) = first-grows old a (contents_at old.objects number)
 
 -- ---- variables
@@ -156,27 +161,27 @@ all-then old mid (All new) first second = then_grows old mid new first second
 all-then old mid (TooLong new) first second = then_grows old mid new first second
 
 assign-grows : (old : World) (a : ℕ) (rows : List (Name × Option Value)) → AllGrows old (assign_from old a rows)
-assign-grows old a [] = same old _ refl refl refl refl refl refl refl
+assign-grows old a [] = same old _ refl refl refl refl refl refl refl refl
 assign-grows old a (row ∷ rows) =
     let next : World = with_value old a (derived old a row.0) row.1 in
-    if-grows old (is_too_long (derived old a row.0)) (TooLong old) (assign_from next a rows) (same old _ refl refl refl refl refl refl refl)
-    (all-then old next (assign_from next a rows) (same old next refl refl refl refl refl refl refl) (assign-grows next a rows))
+    if-grows old (is_too_long (derived old a row.0)) (TooLong old) (assign_from next a rows) (same old _ refl refl refl refl refl refl refl refl)
+    (all-then old next (assign_from next a rows) (same old next refl refl refl refl refl refl refl refl) (assign-grows next a rows))
 
 expose-grows : (old : World) (a pool : ℕ) (names : List Name) → AllGrows old (expose_from old a pool names)
-expose-grows old a pool [] = same old _ refl refl refl refl refl refl refl
+expose-grows old a pool [] = same old _ refl refl refl refl refl refl refl refl
 expose-grows old a pool (name ∷ names) =
     let next : World = with_exposed old a pool (derived old a name) in
-    if-grows old (is_too_long (derived old a name)) (TooLong old) (expose_from next a pool names) (same old _ refl refl refl refl refl refl refl)
-    (all-then old next (expose_from next a pool names) (same old next refl refl refl refl refl refl refl) (expose-grows next a pool names))
+    if-grows old (is_too_long (derived old a name)) (TooLong old) (expose_from next a pool names) (same old _ refl refl refl refl refl refl refl refl)
+    (all-then old next (expose_from next a pool names) (same old next refl refl refl refl refl refl refl refl) (expose-grows next a pool names))
 
 finished-grows : (t : Turn) (old : World) (one : Assigned) → AllGrows old one → Grows old (finished t one)
 finished-grows t old (All new) grows = grows
 finished-grows t old (TooLong new) grows = then_grows old new _ grows (raised-grows new t.number _ (line t))
 
 goes-on-grows : (t : Turn) → Grows t.world (goes_on t)
-goes-on-grows t = same t.world _ refl refl refl refl refl refl refl
+goes-on-grows t = same t.world _ refl refl refl refl refl refl refl refl
 
-assigns-grow : (t : Turn) (rows : List (Name × Option Value)) → Grows t.world (assigns t rows)
+pub assigns-grow : (t : Turn) (rows : List (Name × Option Value)) → Grows t.world (assigns t rows)
 assigns-grow t rows =
     then_grows t.world (goes_on t) _ (goes-on-grows t) (finished-grows t (goes_on t) (assign_from (goes_on t) t.number rows) (assign-grows (goes_on t) t.number rows))
 
@@ -200,24 +205,33 @@ if-line : (old : World) (test : Bool) (one : List ℕ × World) → Grows old on
 if-line old true one grows = grows
 if-line old false one grows = tt
 
-input-grows : (old : World) (lines : List (List ℕ)) → LineGrows old (from_input old lines)
-input-grows old [] = if-line old old.ended ([], old) (same old old refl refl refl refl refl refl refl)
-input-grows old (line ∷ lines) = same old _ refl refl refl refl refl refl refl
+input-grows : (old : World) (lines : List (List ℕ)) → old.rest ≡ lines → LineGrows old (from_input old lines)
+input-grows old [] is = if-line old old.ended ([], old) (same old old refl refl refl refl refl refl refl refl)
+input-grows old (line ∷ lines) is = record {
+  keeps = record { program = refl; arg = refl; budget = refl };
+  steps = refl;
+  ended = refl;
+  rest = λ none. cc;
+  said = [];
+  output = sym (append-nil old.output);
+  noted = [];
+  notes = sym (append-nil old.notes);
+}
 
 queue-grows : (old : World) (lines : List (List ℕ)) → LineGrows old (from_queue old lines)
-queue-grows old [] = input-grows old old.rest
-queue-grows old (line ∷ lines) = same old _ refl refl refl refl refl refl refl
+queue-grows old [] = input-grows old old.rest refl
+queue-grows old (line ∷ lines) = same old _ refl refl refl refl refl refl refl refl
 
 alone-grows : (old : World) (taken : Option (List ℕ × World)) → LineGrows old taken → TakenGrows old (option_map alone taken)
 alone-grows old None grows = tt
 alone-grows old (Some taken) grows = grows
 
 texts-grow : (t : Turn) (values : List Value) (origin : ParseFrom) → TakenGrows t.world (texts_from t values origin)
-texts-grow t values from.Arg = same t.world t.world refl refl refl refl refl refl refl
+texts-grow t values from.Arg = same t.world t.world refl refl refl refl refl refl refl refl
 texts-grow t values from.Pull = alone-grows t.world (pulled_line t.world) (queue-grows t.world t.world.queue)
-texts-grow t values from.LineIn = alone-grows t.world (input_line t.world) (input-grows t.world t.world.rest)
-texts-grow t values (from.Var name) = same t.world t.world refl refl refl refl refl refl refl
-texts-grow t values (from.Value expr) = same t.world t.world refl refl refl refl refl refl refl
+texts-grow t values from.LineIn = alone-grows t.world (input_line t.world) (input-grows t.world t.world.rest refl)
+texts-grow t values (from.Var name) = same t.world t.world refl refl refl refl refl refl refl refl
+texts-grow t values (from.Value expr) = same t.world t.world refl refl refl refl refl refl refl refl
 
 cuts-grow : (t : Turn) (upper : Bool) (bound : List (Template × List TPart)) (taken : Option (List (List ℕ) × World)) → TakenGrows t.world taken
     → StepGrows t.world (cuts t upper bound taken)
@@ -239,6 +253,7 @@ finish-grows t (simple.Say given) values = record {
   keeps = record { program = refl; arg = refl; budget = refl };
   steps = refl;
   ended = refl;
+  rest = λ none. none;
   said = _;
   output = refl;
   noted = [];
@@ -250,8 +265,8 @@ finish-grows t (simple.Return given) values = ended-grows t.world t.number t.fra
 finish-grows t (simple.Expose names) values = exposes-grow t names t.frame.own
 finish-grows t (simple.UseArg strict parameters) values = assigns-grow t (rows parameters t.frame.arguments values)
 finish-grows t (simple.Parse parse) values = parses-grow t parse values (bound_all (variables_at t.world.activities t.number) t.world.pools parse.templates)
-finish-grows t (simple.Push given) values = same t.world _ refl refl refl refl refl refl refl
-finish-grows t (simple.Queue given) values = same t.world _ refl refl refl refl refl refl refl
+finish-grows t (simple.Push given) values = same t.world _ refl refl refl refl refl refl refl refl
+finish-grows t (simple.Queue given) values = same t.world _ refl refl refl refl refl refl refl refl
 finish-grows t (simple.Drop names) values = assigns-grow t (map dropped names)
 finish-grows t (simple.Label name) values = goes-on-grows t
 finish-grows t (simple.SendAssign receiver part expr) values = goes-on-grows t
@@ -281,7 +296,7 @@ settle-grows t one (AllRaise number) = raised-grows t.world t.number number (lin
 settle-grows t one (AllNoValue name) = goes-on-grows t
 settle-grows t one (AllCall pending trees) =
     let next : World = awaits t (awaited_by one pending.awaited trees) trees in
-    then_grows t.world next _ (same t.world next refl refl refl refl refl refl refl) (calls-grow next t.number (line t) pending.sent)
+    then_grows t.world next _ (same t.world next refl refl refl refl refl refl refl refl) (calls-grow next t.number (line t) pending.sent)
 
 starts-grow : (t : Turn) (one : OneClause) (number : Option ℕ) → StepGrows t.world (starts t one number)
 starts-grow t one None = settle-grows t one (comes_to t.world t.number t.frame (trees_of t.frame.arguments one))
@@ -294,7 +309,7 @@ resumes-grow t one (answers.Raises number) = raised-grows t.world t.number numbe
 
 goes-by-grows : (t : Turn) (state : CallState) (one : OneClause) → StepGrows t.world (goes_by t state one)
 goes-by-grows t NoCall one = starts-grow t one (refused t.frame one)
-goes-by-grows t (Awaiting how) one = same t.world t.world refl refl refl refl refl refl refl
+goes-by-grows t (Awaiting how) one = same t.world t.world refl refl refl refl refl refl refl refl
 goes-by-grows t (Answered how answer) one = resumes-grow t one (resumed how answer t.frame.todo.trees)
 
 goes-grows : (t : Turn) (by : Rule) → StepGrows t.world (goes t by)
@@ -316,7 +331,7 @@ if-step old false one other first second = second
 
 frame-grows : (old : World) (a : ℕ) (frame : Frame Todo) → StepGrows old (step_frame old a frame)
 frame-grows old a frame =
-    if-step old frame.asks _ (step_items old a frame (past_labels frame.todo.items)) (same old _ refl refl refl refl refl refl refl)
+    if-step old frame.asks _ (step_items old a frame (past_labels frame.todo.items)) (same old _ refl refl refl refl refl refl refl refl)
     (items-grow old a frame (past_labels frame.todo.items))
 
 frames-grow : (old : World) (a : ℕ) (frames : List (Frame Todo)) → StepGrows old (step_frames old a frames)
@@ -380,3 +395,14 @@ ended-after old WantsLine grows = refl
 -- whether the end of input is known stays as it was
 pub after-ended : (old : World) (a : ℕ) → (after old a).ended ≡ old.ended
 after-ended old a = ended-after old (step old a) (frames-grow (counted old) a (frames_at old.activities a))
+
+same-world : (one other : World) → w.Done one ≡ w.Done other → one ≡ other
+same-world one other is = ap (world_after one) is
+
+rest-after : (old new : World) (stepped : Stepped) → StepGrows (counted old) stepped → stepped ≡ w.Done new → old.rest ≡ [] → new.rest ≡ []
+rest-after old new (w.Done next) grows is none = ap (λ (v : World). v.rest) (sym (same-world next new is)) ∙ grows.rest none
+rest-after old new WantsLine grows is none = cc
+
+-- where no line is left, none is after a step
+pub no-line-comes : NoLineComes
+no-line-comes old new a is none = rest-after old new (step old a) (frames-grow (counted old) a (frames_at old.activities a)) is none

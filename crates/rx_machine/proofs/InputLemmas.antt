@@ -335,7 +335,7 @@ after-with more last v a unknown done =
     ap (world_after (with_more more last v)) (step-with more last v a unknown done) ∙ after-done more last v (step v a) done
 
 -- which activities are enabled doesn't depend on input
-enabled-with : (more : List (List ℕ)) (last : Bool) (v : World) (a : ℕ) → enabled (with_more more last v) a ≡ enabled v a
+pub enabled-with : (more : List (List ℕ)) (last : Bool) (v : World) (a : ℕ) → enabled (with_more more last v) a ≡ enabled v a
 unfolding holder_before
 enabled-with more last v a = refl
 
