@@ -340,7 +340,7 @@ unfolding holder_before
 enabled-with more last v a = refl
 
 -- round robin doesn't depend on input
-robin-with : (more : List (List ℕ)) (last : Bool) (v : World) (before : ℕ) → robin (with_more more last v) before ≡ robin v before
+pub robin-with : (more : List (List ℕ)) (last : Bool) (v : World) (before : ℕ) → robin (with_more more last v) before ≡ robin v before
 unfolding holder_before
 robin-with more last v before = refl
 

@@ -1,7 +1,9 @@
 pub mod Words
-pub mod Picks
-pub mod Loading
 pub mod Ports
+pub mod Loading
+pub mod Lines
+pub mod Feeding
+pub mod Running
 pub mod Runs
 pub mod Conclusions
 pub mod Telling

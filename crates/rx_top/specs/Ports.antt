@@ -1,15 +1,23 @@
 -- What a call sees of the objects that it is handed.
 use Rattle.std.specs.Prelude.{◌≡◌, ℕ, List, Option, None, Some, ◌⊎◌}
+use Rattle.std.specs.Io.KnownBytes.{Consumes}
 use Rattle.rx_ports.specs.Causes.{Rose}
 use Rattle.rx_ports.specs.Shelves.{Files}
 
--- What the objects hold, where they tell it, and how often they have failed.
-pub record Ports : Type 0 where
+-- What a call takes from: the files of the shelf, and the bytes that the input has left, where they are told; and how often
+-- each has failed.
+pub record Supplies : Type 0 where
   pub files : Option Files
   pub shelf_faults : ℕ
-  -- the bytes that the input has left
   pub input : Option (List ℕ)
   pub input_faults : ℕ
+
+abbrev pub supplies : Option Files → ℕ → Option (List ℕ) → ℕ → Supplies
+supplies files shelf_faults input input_faults = record { files = files; shelf_faults = shelf_faults; input = input; input_faults = input_faults }
+
+-- What all objects hold, where they tell it, and how often they have failed.
+pub record Ports : Type 0 where
+  pub supplies : Supplies
   -- the bytes that standard output and standard error have accepted
   pub out : Option (List ℕ)
   pub out_faults : ℕ
@@ -18,10 +26,7 @@ pub record Ports : Type 0 where
 
 abbrev pub ports : Option Files → ℕ → Option (List ℕ) → ℕ → Option (List ℕ) → ℕ → Option (List ℕ) → ℕ → Ports
 ports files shelf_faults input input_faults out out_faults err err_faults = record {
-  files = files;
-  shelf_faults = shelf_faults;
-  input = input;
-  input_faults = input_faults;
+  supplies = supplies files shelf_faults input input_faults;
   out = out;
   out_faults = out_faults;
   err = err;
@@ -32,6 +37,20 @@ ports files shelf_faults input input_faults out out_faults err err_faults = reco
 abbrev pub HasInput : Option (List ℕ) → List ℕ → Type 0
 HasInput None bytes = Unit {0}
 HasInput (Some left) bytes = left ≡ bytes
+
+-- The input had these bytes, and has those left; where it tells.
+abbrev pub Leaves : Option (List ℕ) → Option (List ℕ) → List ℕ → List ℕ → Type 0
+Leaves None now bytes left = Unit {0}
+Leaves (Some had) None bytes left = ⊥
+Leaves (Some had) (Some has) bytes left = (had ≡ bytes) × (has ≡ left)
+
+-- the input has lost some bytes of its front, or none
+abbrev pub Shrinks : Option (List ℕ) → Option (List ℕ) → Type 0
+Shrinks old new = (read : List ℕ) × Consumes old new read
+
+-- the input is as it was
+abbrev pub Unread : Supplies → Supplies → Type 0
+Unread before now = now.input ≡ before.input
 
 -- standard output or standard error has failed
 abbrev pub SinkRose : Ports → Ports → Type 0

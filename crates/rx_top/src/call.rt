@@ -1,6 +1,6 @@
 // The top call.
 ghost use Rattle.std.specs.Prelude.{◌≡◌, ℕ, List, map};
-ghost use Rattle.rx_top.specs.Ports.{ports};
+ghost use Rattle.rx_top.specs.Ports.{Shrinks, ports};
 ghost use Rattle.rx_top.specs.Headline.{IsAnswer, ByStatus};
 
 use crate::top::{Ended, rexx_plain};
@@ -43,7 +43,7 @@ pub fn rexx_call<
         (ports (F.files result.shelf) (F.faults result.shelf) (I.left result.input) (I.faults result.input) (O.held result.out) (O.faults result.out) (E.held result.err) (E.faults result.err))
         result.status result.steps result.schedule.items }
     ensures files { F.files result.shelf ≡ F.files shelf }
-    ensures input { I.left result.input ≡ I.left input }
+    ensures input { Shrinks (I.left input) (I.left result.input) }
 {
     rexx_plain(alloc, words, shelf, input, out, err)
 }

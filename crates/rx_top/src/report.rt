@@ -1,7 +1,8 @@
 // The lines of the report.
 ghost use Rattle.std.specs.Prelude.{◌≡◌, ◌++◌, IfOk, OnOk};
 ghost use Rattle.rx_machine.specs.End.{end, waits};
-ghost use Rattle.rx_machine.specs.Texts.{note_text, note_lines, wait_lines, budget_line, end_text, err_text};
+ghost use Rattle.rx_machine.specs.Texts.{note_text, note_lines, notes_text, wait_lines, budget_line, end_text, err_text};
+ghost use Rattle.rx_top.specs.Runs.{line_245};
 
 use crate::digits::{push_number, push_three_digits};
 use crate::waits::push_waits;
@@ -85,5 +86,14 @@ pub fn report_of(alloc: Global, kernel: &Kernel) -> Result<Vec<u8>, OutOfMemory>
 {
     let mut report = notes_text(alloc, kernel.notes())?;
     push_end(alloc, &mut report, kernel)?;
+    Ok(report)
+}
+
+/// What the report says of a run that wanted a line of input which couldn't be read, or want of memory.
+pub fn report_unfed(alloc: Global, kernel: &Kernel) -> Result<Vec<u8>, OutOfMemory>
+    ensures { IfOk result (λ report. report.items ≡ notes_text kernel.now ++ line_245) }
+{
+    let mut report = notes_text(alloc, kernel.notes())?;
+    report.extend_from_slice(b"REX245 input\n")?;
     Ok(report)
 }

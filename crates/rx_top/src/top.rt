@@ -1,18 +1,22 @@
 // The top call, on one thread.
 ghost use Rattle.std.specs.Prelude.{◌≡◌, ℕ, List, IfOk, map};
-ghost use Rattle.rx_top.specs.Conclusions.{RunsFile, Fulfils, Concludes};
-ghost use Rattle.rx_top.specs.Ports.{ports};
+ghost use Rattle.rx_top.specs.Conclusions.{Fulfils, IsConclusion, RunsFile};
+ghost use Rattle.rx_top.specs.Ports.{Shrinks, ports, supplies};
 ghost use Rattle.rx_top.specs.Headline.{IsAnswer, ByStatus};
 
 use crate::checking::check_file;
 use crate::conclusion::Conclusion;
 use crate::loading::{Loaded, load};
 use crate::playing::play;
+use crate::refusing::{tell_bad, tell_refused};
 use crate::telling::tell;
 use crate::words::{Request, WordsRefused, read_words};
 use rx_ports::{Accepted, Shelf, Sink, Source};
-use rx_tree::OutOfMemory;
+use rx_tree::{OutOfMemory, Text};
 use std::alloc::Global;
+
+/// The number by which a clause is told that doesn't run yet.
+const UNBUILT: u8 = 3;
 
 /// What a call gives back.
 pub struct Ended<F, I, O, E> {
@@ -42,57 +46,88 @@ impl<F: Drop, I: Drop, O: Drop, E: Drop> Drop for Ended<F, I, O, E> {
     }
 }
 
-// Runs the program of a file for so many steps at most, or wants memory.
-fn run_file<F: Shelf>(
+// Runs the program of a file with this argument for so many steps at most, or wants memory.
+fn run_file<F: Shelf, I: Source>(
     alloc: Global,
     shelf: &mut F,
+    input: &mut I,
     name: &[u8],
     steps: u64,
+    argument: Option<Text>,
 ) -> Result<Conclusion, OutOfMemory>
-    ensures conclusion { IfOk result (RunsFile name.now steps (F.files shelf.old) (F.faults shelf.old) (F.faults shelf.new)) }
+    ensures conclusion { IfOk result (RunsFile name.now steps argument
+        (supplies (F.files shelf.old) (F.faults shelf.old) (I.left input.old) (I.faults input.old))
+        (supplies (F.files shelf.new) (F.faults shelf.new) (I.left input.new) (I.faults input.new))) }
     ensures files { F.files shelf.new ≡ F.files shelf.old }
+    ensures shrinks { Shrinks (I.left input.old) (I.left input.new) }
 {
     match load(alloc, shelf, name) {
-        Loaded::Found(program) => play(alloc, program, steps),
-        Loaded::NoProgram => Conclusion::refused(alloc, 240, b"REX240 line 1 error 3\n"),
+        Loaded::Found(program) => play(alloc, program, argument, steps, input),
+        Loaded::Unbuilt(line) => tell_bad(alloc, line, UNBUILT),
+        Loaded::Refused(refused) => tell_refused(alloc, refused),
         Loaded::ShelfFault => Conclusion::refused(alloc, 244, b"REX244 shelf\n"),
-        Loaded::NoMemory => Err(OutOfMemory),
     }
 }
 
 // Does what a request asks for, or wants memory.
-fn fulfil<F: Shelf>(alloc: Global, asks: &Request, shelf: &mut F) -> Result<Conclusion, OutOfMemory>
-    ensures conclusion { IfOk result (Fulfils asks.now (F.files shelf.old) (F.faults shelf.old) (F.faults shelf.new)) }
+fn fulfil<F: Shelf, I: Source>(
+    alloc: Global,
+    asks: Request,
+    shelf: &mut F,
+    input: &mut I,
+) -> Result<Conclusion, OutOfMemory>
+    ensures conclusion { IfOk result (Fulfils asks
+        (supplies (F.files shelf.old) (F.faults shelf.old) (I.left input.old) (I.faults input.old))
+        (supplies (F.files shelf.new) (F.faults shelf.new) (I.left input.new) (I.faults input.new))) }
     ensures files { F.files shelf.new ≡ F.files shelf.old }
+    ensures shrinks { Shrinks (I.left input.old) (I.left input.new) }
 {
     match asks {
-        Request::Run { steps, program, .. } => run_file(alloc, shelf, program.as_slice(), *steps),
+        Request::Run {
+            workers: _,
+            steps,
+            schedule: _,
+            program,
+            arg,
+        } => run_file(alloc, shelf, input, program.as_slice(), steps, arg),
         Request::Check { program } => check_file(alloc, shelf, program.as_slice()),
     }
 }
 
 // What the words come to, or want of memory.
-fn answer<F: Shelf>(
+fn answer<F: Shelf, I: Source>(
     alloc: Global,
     words: &[Vec<u8>],
     shelf: &mut F,
+    input: &mut I,
 ) -> Result<Conclusion, OutOfMemory>
-    ensures conclusion { IfOk result (Concludes (map (λ word. word.items) words.now) (F.files shelf.old) (F.faults shelf.old) (F.faults shelf.new)) }
+    ensures conclusion { IfOk result (IsConclusion (map (λ word. word.items) words.now)
+        (supplies (F.files shelf.old) (F.faults shelf.old) (I.left input.old) (I.faults input.old))
+        (supplies (F.files shelf.new) (F.faults shelf.new) (I.left input.new) (I.faults input.new))) }
     ensures files { F.files shelf.new ≡ F.files shelf.old }
+    ensures shrinks { Shrinks (I.left input.old) (I.left input.new) }
 {
     match read_words(alloc, words) {
-        Ok(asks) => fulfil(alloc, &asks, shelf),
+        Ok(asks) => fulfil(alloc, asks, shelf, input),
         Err(WordsRefused::NotARequest) => Conclusion::refused(alloc, 243, b"REX243 words\n"),
         Err(WordsRefused::OutOfMemory) => Err(OutOfMemory),
     }
 }
 
 // What the words come to.
-fn conclude<F: Shelf>(alloc: Global, words: &[Vec<u8>], shelf: &mut F) -> Conclusion
-    ensures conclusion { Concludes (map (λ word. word.items) words.now) (F.files shelf.old) (F.faults shelf.old) (F.faults shelf.new) result }
+fn conclude<F: Shelf, I: Source>(
+    alloc: Global,
+    words: &[Vec<u8>],
+    shelf: &mut F,
+    input: &mut I,
+) -> Conclusion
+    ensures conclusion { IsConclusion (map (λ word. word.items) words.now)
+        (supplies (F.files shelf.old) (F.faults shelf.old) (I.left input.old) (I.faults input.old))
+        (supplies (F.files shelf.new) (F.faults shelf.new) (I.left input.new) (I.faults input.new)) result }
     ensures files { F.files shelf.new ≡ F.files shelf.old }
+    ensures shrinks { Shrinks (I.left input.old) (I.left input.new) }
 {
-    match answer(alloc, words, shelf) {
+    match answer(alloc, words, shelf, input) {
         Ok(told) => told,
         Err(_) => Conclusion::silent(alloc, 247),
     }
@@ -119,12 +154,13 @@ pub fn rexx_plain<F: Shelf, I: Source, O: Sink, E: Sink>(
         (ports (F.files result.shelf) (F.faults result.shelf) (I.left result.input) (I.faults result.input) (O.held result.out) (O.faults result.out) (E.held result.err) (E.faults result.err))
         result.status result.steps result.schedule.items }
     ensures files { F.files result.shelf ≡ F.files shelf }
-    ensures input { I.left result.input ≡ I.left input }
+    ensures input { Shrinks (I.left input) (I.left result.input) }
 {
     let mut shelf = shelf;
     let mut out = out;
     let mut err = err;
-    let told = conclude(alloc, words.as_slice(), &mut shelf);
+    let mut input = input;
+    let told = conclude(alloc, words.as_slice(), &mut shelf, &mut input);
     let status = match tell(
         &mut out,
         &mut err,

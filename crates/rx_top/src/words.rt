@@ -1,14 +1,14 @@
 // The words of a command line.
-ghost use Rattle.std.specs.Prelude.{◌≡◌, ℕ, List, map};
-ghost use Rattle.std.specs.Option.{option_and_then};
+ghost use Rattle.std.specs.Prelude.{◌≡◌, ◌++◌, ℕ, List, IfOk, Some, map};
 ghost use Rattle.rx_whole.specs.Number.{num};
 ghost use Rattle.rx_whole.specs.Numeral.{numeral_of};
-ghost use Rattle.rx_top.specs.Words.{request, is_option, is_number_between, number_between, run_of, run_request, check_request, IsReadingOf};
+ghost use Rattle.rx_top.specs.Words.{request, argument_of, is_option, is_number_between, number_between, run_of, run_request, stepped, check_request, with_blanks, IsArgumentOf, IsReadingOf};
 
 use itoa::Buffer;
+use rx_tree::Text;
 use rx_whole::{Numeral, read_number};
 use sqlite_items::Items;
-use std::alloc::Global;
+use std::alloc::{AllocError, Global};
 use thiserror::Error;
 
 /// What a command line asks for.
@@ -25,7 +25,7 @@ pub enum Request {
         /// The name of the program's file.
         program: Items<u8>,
         /// The program's argument.
-        arg: Option<Items<u8>>,
+        arg: Option<Text>,
     },
     /// To tell whether a source is a program.
     Check {
@@ -89,30 +89,56 @@ fn read_steps(word: &[u8]) -> Option<u64>
     steps_read(word, number)
 }
 
-// How many steps a run may take, and the word that names its program.
-fn steps_and_program(words: &[Vec<u8>]) -> Option<(u64, &[u8])>
-    ensures { run_request (map (λ word. word.items) words.now) ≡ option_and_then (λ found. run_of found.0 found.1.now) result }
+// Words joined by one blank, a first one and others.
+fn join(alloc: Global, first: &[u8], words: &[Vec<u8>]) -> Result<Vec<u8>, AllocError>
+    ensures { IfOk result (λ text. text.items ≡ first.now ++ with_blanks (map (λ word. word.items) words.now)) }
 {
-    match words {
-        [program] => Some((DEFAULT_STEPS, program.as_slice())),
-        [option, steps, program] if option.as_slice() == b"--steps".as_slice() => {
-            Some((read_steps(steps.as_slice())?, program.as_slice()))
-        }
-        _ => None,
+    let mut text = Vec::from_slice(alloc, first)?;
+    for word in words {
+        text.push(b' ')?;
+        text.extend_from_slice(word.as_slice())?;
+    }
+    Ok(text)
+}
+
+// The argument that joined words are, if it isn't too long.
+fn argument(alloc: Global, joined: &[u8]) -> Result<Option<Text>, WordsRefused>
+    ensures { IsArgumentOf (Some joined.now) result }
+{
+    if joined.len() > Text::LONGEST {
+        return Err(WordsRefused::NotARequest);
+    }
+    match Text::from_slice(alloc, joined) {
+        Ok(text) => Ok(Some(text)),
+        Err(_) => Err(WordsRefused::OutOfMemory),
     }
 }
 
-// The request to run a program that the words behind `run` are.
-fn read_run(alloc: Global, words: &[Vec<u8>]) -> Result<Request, WordsRefused>
-    ensures { IsReadingOf (run_request (map (λ word. word.items) words.now)) result }
+// The argument that the words behind a program are.
+fn read_argument(alloc: Global, words: &[Vec<u8>]) -> Result<Option<Text>, WordsRefused>
+    ensures { IsArgumentOf (argument_of (map (λ word. word.items) words.now)) result }
 {
-    let Some((steps, program)) = steps_and_program(words) else {
+    let [first, words @ ..] = words else {
+        return Ok(None);
+    };
+    let Ok(joined) = join(alloc, first.as_slice(), words) else {
+        return Err(WordsRefused::OutOfMemory);
+    };
+    argument(alloc, joined.as_slice())
+}
+
+// The request to run a program for so many steps, by the words from the program on.
+fn read_program(alloc: Global, steps: u64, words: &[Vec<u8>]) -> Result<Request, WordsRefused>
+    ensures { IsReadingOf (run_of steps (map (λ word. word.items) words.now)) result }
+{
+    let [program, words @ ..] = words else {
         return Err(WordsRefused::NotARequest);
     };
-    if is_option(program) {
+    if is_option(program.as_slice()) {
         return Err(WordsRefused::NotARequest);
     }
-    let Ok(program) = Items::from_slice(alloc, program) else {
+    let arg = read_argument(alloc, words)?;
+    let Ok(program) = Items::from_slice(alloc, program.as_slice()) else {
         return Err(WordsRefused::OutOfMemory);
     };
     Ok(Request::Run {
@@ -120,8 +146,34 @@ fn read_run(alloc: Global, words: &[Vec<u8>]) -> Result<Request, WordsRefused>
         steps,
         schedule: None,
         program,
-        arg: None,
+        arg,
     })
+}
+
+// The same, by the words behind `--steps`.
+fn read_stepped(alloc: Global, words: &[Vec<u8>]) -> Result<Request, WordsRefused>
+    ensures { IsReadingOf (stepped (map (λ word. word.items) words.now)) result }
+{
+    let [steps, words @ ..] = words else {
+        return Err(WordsRefused::NotARequest);
+    };
+    let Some(steps) = read_steps(steps.as_slice()) else {
+        return Err(WordsRefused::NotARequest);
+    };
+    read_program(alloc, steps, words)
+}
+
+// The request to run a program that the words behind `run` are.
+fn read_run(alloc: Global, words: &[Vec<u8>]) -> Result<Request, WordsRefused>
+    ensures { IsReadingOf (run_request (map (λ word. word.items) words.now)) result }
+{
+    match words {
+        [] => Err(WordsRefused::NotARequest),
+        [option, words @ ..] if option.as_slice() == b"--steps".as_slice() => read_stepped(
+            alloc, words,
+        ),
+        [_, ..] => read_program(alloc, DEFAULT_STEPS, words),
+    }
 }
 
 // The request to check a source that the words behind `check` are.
@@ -141,8 +193,8 @@ fn read_check(alloc: Global, words: &[Vec<u8>]) -> Result<Request, WordsRefused>
 }
 
 /// The request that the words are: `run`, then perhaps `--steps` and a number from 1 to 10,000,000 in decimal digits
-/// without leading zeros, then the name of a file, which begins with no `--`; or `check` and the name of such a file. Other
-/// words are refused.
+/// without leading zeros, then the name of a file, which begins with no `--`, and then the words of the program's argument, at most
+/// 16,777,216 bytes once they are joined by one blank; or `check` and the name of such a file. Other words are refused.
 #[tactic(auto, unfolding(crate::specs::Words::request))]
 pub fn read_words(alloc: Global, words: &[Vec<u8>]) -> Result<Request, WordsRefused>
     ensures reading { IsReadingOf (request (map (λ word. word.items) words.now)) result }
