@@ -37,11 +37,29 @@ fn words_of(alloc: Global, line: &str) -> Result<Vec<Vec<u8>>, AllocError> {
     Ok(words)
 }
 
-/// Calls the interpreter with these words, each with a blank before it. The shelf has one file, `case`, with this source.
+/// What came of a call, as text: as `tell_call` has it, and what the input has left.
+pub fn tell_left(alloc: Global, call: &Call) -> Result<String, AllocError> {
+    let told = tell_call(alloc, call)?;
+    let left = escape(alloc, call.input.left())?;
+    format!(in alloc; "{told} <{left}>")
+}
+
+/// Calls the interpreter with these words, each with a blank before it, over no input. The shelf has one file, `case`, with this
+/// source.
 pub fn call(
     rt: &(impl Threads + Wait + Sync + AllocGlobal),
     words: &str,
     source: Vec<u8>,
+) -> Result<Call, AllocError> {
+    call_over(rt, words, source, Vec::new(rt.alloc()))
+}
+
+/// The same over an input.
+pub fn call_over(
+    rt: &(impl Threads + Wait + Sync + AllocGlobal),
+    words: &str,
+    source: Vec<u8>,
+    input: Vec<u8>,
 ) -> Result<Call, AllocError> {
     let alloc = rt.alloc();
     let mut files = Vec::new(alloc);
@@ -52,7 +70,7 @@ pub fn call(
         alloc,
         words,
         MemShelf::new(files, Vec::new(alloc)),
-        SureSource::new(Vec::new(alloc)),
+        SureSource::new(input),
         MemSink::new(alloc, Vec::new(alloc), 0),
         MemSink::new(alloc, Vec::new(alloc), 0),
         &FreeGate {},

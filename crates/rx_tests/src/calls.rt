@@ -92,7 +92,7 @@ fn an_output_that_fails_keeps_its_first_bytes(rt: HostRuntime) -> Result<(), Fai
 #[test]
 fn a_report_that_fails_is_told_by_the_status(rt: HostRuntime) -> Result<(), Fail> {
     let outside = Outside {
-        source: b"say 1",
+        source: b"says",
         shelf_fails: &[],
         out_fails: &[],
         err_fails: &[1],

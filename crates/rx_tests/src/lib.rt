@@ -9,6 +9,8 @@ mod adapters;
 #[cfg(test)]
 mod calls;
 #[cfg(test)]
+mod inputs;
+#[cfg(test)]
 mod memory;
 #[cfg(test)]
 mod outside;
