@@ -122,6 +122,10 @@ last-line old mid new bytes line NoMemory begun less same taken ended keeps is =
 last-line old mid new bytes line (Line other) begun less same taken ended keeps is = absurd is
 last-line old mid new bytes line Failed begun less same taken ended keeps is = absurd is
 
+-- a byte behind them that is lost
+pub shrinks-byte : (old mid new : Option (List ℕ)) (bytes : List ℕ) (b : ℕ) → Consumes old mid bytes → Consumes mid new (b ∷ []) → Shrinks old new
+shrinks-byte old mid new bytes b first second = (bytes ++ b ∷ [], Consumes-trans old mid new bytes (b ∷ []) first second)
+
 -- a byte that couldn't be read, or for which there was no memory
 pub shrinks-kept : (old mid new : Option (List ℕ)) (bytes : List ℕ) → Consumes old mid bytes → Keeps mid new → Shrinks old new
 shrinks-kept old mid new bytes taken keeps = (bytes, Consumes-kept old mid new bytes taken keeps)

@@ -5,6 +5,7 @@ ghost use Rattle.rx_machine.specs.Enabled.{enabled};
 ghost use Rattle.rx_machine.specs.End.{end};
 ghost use Rattle.rx_machine.specs.Laws.{IsTaken};
 ghost use Rattle.rx_machine.specs.Step.{step};
+ghost use Rattle.rx_machine.specs.World.{WantsLine};
 ghost use Rattle.rx_top.specs.Ports.{Shrinks};
 ghost use Rattle.rx_top.specs.Running.{IsCourse, IsNextPick, IsStarved, IsTakenBy, IsTried};
 
@@ -48,6 +49,28 @@ fn step_fed<L: Ledger>(kernel: &mut Kernel, a: u32, looks: &mut Steps<L>) -> Res
     }
 }
 
+// Takes the step of an activity that wants a line of the input, once it has got that, or the end.
+fn step_behind<L: Ledger, I: Source>(
+    alloc: Global,
+    kernel: &mut Kernel,
+    a: u32,
+    input: &mut I,
+    looks: &mut Steps<L>,
+) -> Result<Fed, OutOfMemory>
+    requires enabled { IsTrue (enabled kernel.old a) }
+    requires going { end kernel.old ≡ End.Going }
+    requires wants { step kernel.old a ≡ WantsLine }
+    ensures tried { IfOk result (IsTried kernel.old kernel.new a (I.left input.old) (I.left input.new)) }
+    ensures cause { HasCause (I.faults input.old) (I.faults input.new) (result ≡ Ok Fed.Failed) }
+    ensures shrinks { Shrinks (I.left input.old) (I.left input.new) }
+{
+    let fed = feed(alloc, kernel, input)?;
+    if let Fed::Done = fed {
+        step_fed(kernel, a, looks)?;
+    }
+    Ok(fed)
+}
+
 // Takes the step of an activity, with a line of the input where it wants one.
 fn try_step<L: Ledger, I: Source>(
     alloc: Global,
@@ -62,14 +85,10 @@ fn try_step<L: Ledger, I: Source>(
     ensures cause { HasCause (I.faults input.old) (I.faults input.new) (result ≡ Ok Fed.Failed) }
     ensures shrinks { Shrinks (I.left input.old) (I.left input.new) }
 {
-    if let Stepped::Done = kernel.step(a, looks)? {
-        return Ok(Fed::Done);
+    match kernel.step(a, looks)? {
+        Stepped::Done => Ok(Fed::Done),
+        Stepped::WantsLine => step_behind(alloc, kernel, a, input, looks),
     }
-    let fed = feed(alloc, kernel, input)?;
-    if let Fed::Done = fed {
-        step_fed(kernel, a, looks)?;
-    }
-    Ok(fed)
 }
 
 /// Runs to the end, or to a line that can't be read: each pick is the next in a circle. Or memory is wanted.
