@@ -14,29 +14,34 @@ help() {
     cat << 'END'
 Samdrulka, a proved interpreter for Open Object Rexx (whole-number profile)
 
-  ./rexx run FILE            runs the program of a file
-  ./rexx run --steps N FILE  the same with N steps at most, from 1 to 10,000,000, in place of 1,000,000
-  ./rexx check FILE          tells whether a source is a program of the whole language, and runs nothing
-  ./rexx --unproved WORDS    what the words say, run or check, by a trial build, of which nothing is proved
-  ./rexx --help              prints this
-  ./rexx --version           prints the commit and the toolchain
+  ./rexx run [--steps N] FILE [WORDS]  runs the program of a file, with WORDS as its argument
+  ./rexx check FILE                    tells whether a source is a program of the language, and runs nothing
+  ./rexx --unproved ..                 what stands behind it, run or check, by a trial build, of which nothing is proved
+  ./rexx --help                        prints this
+  ./rexx --version                     prints the commit and the toolchain
 
-FILE is absolute, or from the working directory on. The first run proves and builds the program, which takes about an hour.
+N is how many steps the run may take, from 1 to 10,000,000; where it isn't said, 1,000,000. FILE is absolute, or from the
+working directory on. WORDS are joined by one blank each; without them there is no argument. The program reads standard
+input line by line where it wants one. What doesn't run yet is refused with 240 and error 3.
+
+The first run proves and builds the program, which takes about an hour.
 The trial build is there in about a minute, and runs some 300 times slower.
 
 Status  When
-     0  the run ended, and no error ended the main program; or the source that was checked is a program
-     1  the program could not be built
+     0  the source that was checked is a program
+ 0-239  the run ended, and no error ended the main program: the value of its RETURN, else 0
+     1  the interpreter could not be built
    127  the toolchain's command rt is not on the path
-   240  the source is no program
+   240  the source is no program, or it has a clause that doesn't run yet (error 3)
    241  none of the live activities can go on
    242  the program took all its steps and had not ended
    243  the words are no request
    244  the file could not be read
+   245  a line of the input was wanted and could not be read
    246  standard output or standard error failed
    247  a growth of memory was refused
    249  an error ended the main program
-   250  the source that was checked has more than 4,194,304 bytes, or more than 250 brackets that are open at once
+   250  the source has more than 4,194,304 bytes, or more than 250 brackets that are open at once
 END
 }
 
