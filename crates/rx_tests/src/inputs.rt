@@ -27,7 +27,7 @@ impl Source for NoSource {
 }
 
 // `run case` of a source over an input.
-fn run_over<I: Source + Send>(
+fn run_over<I: Source + Send + Drop>(
     rt: &(impl Threads + Wait + Sync + AllocGlobal),
     source: &[u8],
     input: I,
